@@ -1,0 +1,17 @@
+//! What every crate of the store speaks of: digests, texts, the limits, what an outside object
+//! answers where it fails, and the writer of Borsh records.
+#![tactic(auto)]
+
+mod fault;
+mod hash;
+mod hashing;
+mod limits;
+mod text;
+mod writer;
+
+pub use fault::Fault;
+pub use hash::Digest;
+pub use hashing::digest;
+pub use limits::Limits;
+pub use text::Text;
+pub use writer::Writer;

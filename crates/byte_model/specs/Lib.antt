@@ -1,0 +1,5 @@
+pub mod Borsh
+pub mod Nibbles
+pub mod PackedPath
+pub mod Below
+pub mod Node

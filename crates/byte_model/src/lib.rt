@@ -1,0 +1,2 @@
+//! The bytes of the store's records.
+#![tactic(auto)]

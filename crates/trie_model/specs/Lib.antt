@@ -1,0 +1,5 @@
+pub mod State
+pub mod Tree
+pub mod Texts
+pub mod Root
+pub mod Examples

@@ -1,0 +1,2 @@
+//! The state of a shard and its canonical trie.
+#![tactic(auto)]
