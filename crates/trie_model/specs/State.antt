@@ -1,5 +1,5 @@
 -- A state: a finite map from byte strings to byte strings.
-use Rattle.std.specs.Prelude.{ℕ, ◌≤◌, List, [], ◌∷◌, length, map}
+use Rattle.std.specs.Prelude.{ℕ, ◌^◌, ◌≤◌, List, [], ◌∷◌, length, map}
 use Rattle.std.specs.List.{AllByRecursion}
 use Rattle.std.specs.Ordering.{nat_cmp}
 use Rattle.std.specs.Cmp.Lexicographic.{slice_cmp}
@@ -15,10 +15,6 @@ State = FinMap (slice_cmp nat_cmp) (List ℕ)
 abbrev pub longest_key : ℕ
 longest_key = 2114
 
--- the most pairs that a state may have, 2 ^ 22
-abbrev pub most_pairs : ℕ
-most_pairs = 4194304
-
 -- a key and a value are byte strings within the limits
 pub record IsPair (pair : List ℕ × List ℕ) : Type 0 where
   pub key : AreBytes pair.0
@@ -28,7 +24,7 @@ pub record IsPair (pair : List ℕ × List ℕ) : Type 0 where
 
 pub record IsState (state : State) : Type 0 where
   pub pairs : AllByRecursion IsPair (entries state)
-  pub few : length (entries state) ≤ most_pairs
+  pub few : length (entries state) ≤ 2 ^ 32
 
 -- A pair as the trie sees it: the nibbles of the key, and the value.
 abbrev pub Row : Type 0
