@@ -22,13 +22,11 @@ impl Text {
     pub fn copy(alloc: Global, bytes: &[u8]) -> Result<Text, AllocError>
         ensures { IfOk result (λ text. text ≡ bytes.now) }
     {
-        Ok(Text {
-            bytes: Vec::from_slice(alloc, bytes)?,
-        })
+        Ok(Text::from_bytes(Vec::from_slice(alloc, bytes)?))
     }
 
     /// A text of these bytes. It takes no memory.
-    pub(crate) fn of(bytes: Vec<u8>) -> Text
+    pub fn from_bytes(bytes: Vec<u8>) -> Text
         ensures { result ≡ bytes.items }
     {
         Text { bytes }

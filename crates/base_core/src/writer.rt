@@ -96,6 +96,6 @@ impl Writer {
     pub fn into_text(self) -> Text
         ensures { result ≡ self }
     {
-        Text::of(self.bytes)
+        Text::from_bytes(self.bytes)
     }
 }

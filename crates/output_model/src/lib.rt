@@ -1,0 +1,2 @@
+//! What the program writes, and how it ends.
+#![tactic(auto)]

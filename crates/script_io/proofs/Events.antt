@@ -1,0 +1,102 @@
+-- The event of a line, as its words are cut off one after another.
+use Rattle.std.proofs.Common.{◌≡◌, ℕ, Bool, true, false, cond, eqb, leb, List, [], ◌∷◌, length, Option, Some, None, Result, Ok, Err, refl, sym, ap, ◌∙◌, subst}
+use Rattle.std.specs.Prelude.{codes}
+use Rattle.std.specs.List.{slice_split, join_with_byte}
+use Rattle.std.specs.Result.{result_ok}
+use Rattle.std.specs.Str.{bytes_eq}
+use Rattle.std.specs.Cmp.Lexicographic.{bytes_decides}
+use Rattle.std.proofs.lemmas.Bool.{ne_eqb}
+use Rattle.std.proofs.lemmas.List.Elements.{All-weaker}
+use Rattle.std.proofs.lemmas.List.Splits.{slice_split_none, join_with_byte-slice_split}
+use Rattle.hex.specs.Hex.{decode_of, is_hex_digit}
+use Rattle.hex.specs.declared.error.FromHexError.{FromHexError}
+use Rattle.hex.proofs.HexLemmas.{decode_of-ok}
+use Rattle.script_model.specs.Lines.{Event, set, set_pair, event_of, event_of_words, is_space}
+use Rattle.script_model.specs.Spellings.{hex_bytes, at_most, key_of, value_of, no_bytes}
+
+-- another first word
+other_word : (word : List ℕ) (words : List (List ℕ)) → bytes_eq word (codes "set") ≡ false → event_of_words (word ∷ words) ≡ None
+other_word word [] e = refl
+other_word word (key ∷ []) e = refl
+other_word word (key ∷ value ∷ []) e = rw e refl
+other_word word (key ∷ value ∷ more ∷ words) e = refl
+
+no_set : (b : Bool) (e f : Option Event) → e ≡ None → f ≡ None → cond b e f ≡ None
+no_set true e f h k = h
+no_set false e f h k = k
+
+no_pair : (key : Option (List ℕ)) → set_pair key None ≡ None
+no_pair None = refl
+no_pair (Some key) = refl
+
+no_key : (word key : List ℕ) (words : List (List ℕ)) → key_of key ≡ None → event_of_words (word ∷ key ∷ words) ≡ None
+no_key word key [] e = refl
+no_key word key (value ∷ []) e = no_set (bytes_eq word (codes "set")) _ _ (ap (λ k. set_pair k (value_of value)) e) refl
+no_key word key (value ∷ more ∷ words) e = refl
+
+no_value : (word key value : List ℕ) (words : List (List ℕ)) → join_with_byte 32 words ≡ value → value_of value ≡ None → event_of_words (word ∷ key ∷ words) ≡ None
+no_value word key value [] j e = refl
+no_value word key value (v ∷ []) j e = no_set (bytes_eq word (codes "set")) _ _ (ap (λ k. set_pair (key_of key) (value_of k)) j ∙ ap (set_pair (key_of key)) e ∙ no_pair (key_of key)) refl
+no_value word key value (v ∷ more ∷ words) j e = refl
+
+-- ---- a text that writes bytes is one word
+
+digit_is_no_space : (b : ℕ) → is_hex_digit b ≡ true → is_space b ≡ false
+digit_is_no_space b h = ne_eqb b 32 (λ e. absurd (differ (subst (λ (c : ℕ). is_hex_digit c ≡ true) e h)))
+  where
+    differ : is_hex_digit 32 ≡ true → ⊥
+    differ e = cc
+
+one_word_of : (text : List ℕ) (r : Result (List ℕ) FromHexError) (bytes : List ℕ) → decode_of text ≡ r → result_ok r ≡ Some bytes → slice_split is_space text ≡ text ∷ []
+one_word_of text (Ok found) bytes e h =
+    slice_split_none is_space text (All-weaker (λ b. is_hex_digit b ≡ true) (λ b. is_space b ≡ false) digit_is_no_space text (decode_of-ok text found e).1)
+one_word_of text (Err f) bytes e h = absurd cc
+
+one_word_by : (b : Bool) (text bytes : List ℕ) → bytes_eq text no_bytes ≡ b → cond b (Some []) (cond (eqb (length text) 0) None (result_ok (decode_of text))) ≡ Some bytes → slice_split is_space text ≡ text ∷ []
+one_word_by true text bytes e h = subst (λ (t : List ℕ). slice_split is_space t ≡ t ∷ []) (sym ((bytes_decides text no_bytes).0 e)) refl
+one_word_by false text bytes e h = some_word (eqb (length text) 0) h
+  where
+    some_word : (b : Bool) → cond b None (result_ok (decode_of text)) ≡ Some bytes → slice_split is_space text ≡ text ∷ []
+    some_word true h = absurd cc
+    some_word false h = one_word_of text (decode_of text) bytes refl h
+
+one_word : (text bytes : List ℕ) → hex_bytes text ≡ Some bytes → slice_split is_space text ≡ text ∷ []
+unfolding hex_bytes
+one_word text bytes e = one_word_by (bytes_eq text no_bytes) text bytes refl e
+
+within : (most : ℕ) (o : Option (List ℕ)) (bytes : List ℕ) → at_most most o ≡ Some bytes → o ≡ Some bytes
+within most None bytes e = absurd cc
+within most (Some found) bytes e = chosen (leb (length found) most) e
+  where
+    chosen : (b : Bool) → cond b (Some found) None ≡ Some bytes → Some found ≡ Some bytes
+    chosen true h = h
+    chosen false h = absurd cc
+
+-- ---- the event of a line whose words were cut off so
+
+pub event-no_word : (line : List ℕ) → slice_split is_space line ≡ line ∷ [] → event_of line ≡ None
+unfolding event_of
+event-no_word line e = ap event_of_words e
+
+pub event-other_word : (line word rest : List ℕ) → slice_split is_space line ≡ word ∷ slice_split is_space rest → bytes_eq word (codes "set") ≡ false → event_of line ≡ None
+unfolding event_of
+event-other_word line word rest e h = ap event_of_words e ∙ other_word word (slice_split is_space rest) h
+
+pub event-one_word : (line word rest : List ℕ) → slice_split is_space line ≡ word ∷ slice_split is_space rest → slice_split is_space rest ≡ rest ∷ [] → event_of line ≡ None
+unfolding event_of
+event-one_word line word rest e f = ap event_of_words (e ∙ ap (λ (words : List (List ℕ)). word ∷ words) f)
+
+pub event-no_key : (line word rest key value : List ℕ) → slice_split is_space line ≡ word ∷ slice_split is_space rest → slice_split is_space rest ≡ key ∷ slice_split is_space value → key_of key ≡ None → event_of line ≡ None
+unfolding event_of
+event-no_key line word rest key value e f h = ap event_of_words (e ∙ ap (λ (words : List (List ℕ)). word ∷ words) f) ∙ no_key word key (slice_split is_space value) h
+
+pub event-no_value : (line word rest key value : List ℕ) → slice_split is_space line ≡ word ∷ slice_split is_space rest → slice_split is_space rest ≡ key ∷ slice_split is_space value → value_of value ≡ None → event_of line ≡ None
+unfolding event_of
+event-no_value line word rest key value e f h = ap event_of_words (e ∙ ap (λ (words : List (List ℕ)). word ∷ words) f) ∙ no_value word key value (slice_split is_space value) (join_with_byte-slice_split 32 value) h
+
+pub event-set : (line word rest key value k v : List ℕ) → slice_split is_space line ≡ word ∷ slice_split is_space rest → slice_split is_space rest ≡ key ∷ slice_split is_space value → bytes_eq word (codes "set") ≡ true → key_of key ≡ Some k → value_of value ≡ Some v → event_of line ≡ Some (set k v)
+unfolding event_of value_of
+event-set line word rest key value k v e f w hk hv =
+    let alone : slice_split is_space value ≡ value ∷ [] = one_word value v (within 4194304 (hex_bytes value) v hv) in
+    ap event_of_words (e ∙ ap (λ (words : List (List ℕ)). word ∷ words) (f ∙ ap (λ (words : List (List ℕ)). key ∷ words) alone))
+    ∙ ap (λ b. cond b (set_pair (key_of key) (value_of value)) None) w ∙ ap (λ o. set_pair o (value_of value)) hk ∙ ap (set_pair (Some k)) hv

@@ -1,0 +1,12 @@
+use Rattle.std.proofs.Common.{◌≤◌, length}
+use Rattle.script_io.proofs.Putting.{Sent}
+use Rattle.script_io.proofs.output.put.Given as goal
+
+abbrev pub invariant-loop-rest : goal.invariant-loop-rest
+invariant-loop-rest g l = record {
+  sent : Sent (λ bytes. bytes) (g.K.Sink.written l.fn.sink) (g.K.Sink.written l.sink) l.bytes l.rest;
+  no_fall : g.K.Sink.faults l.fn.sink ≤ g.K.Sink.faults l.sink;
+}
+
+abbrev pub decreases-loop-rest : goal.decreases-loop-rest
+decreases-loop-rest g l = length l.rest

@@ -1,0 +1,5 @@
+pub mod Streams
+pub mod Memory
+pub mod SinkRoom
+pub mod Shown
+pub mod Input

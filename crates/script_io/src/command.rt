@@ -1,0 +1,33 @@
+ghost use Rattle.std.specs.Prelude.{◌≡◌, Some, None, IfOk};
+ghost use Rattle.script_model.specs.Words.{command_of};
+ghost use Rattle.script_io.specs.Shown.{command};
+
+use base_core::Text;
+use std::alloc::Global;
+use thiserror::Error;
+
+/// What the program is asked to do.
+#[derive(Debug, Drop)]
+pub enum Command {
+    /// The root and the memory usage of a state.
+    Root,
+}
+
+#[derive(Debug, Drop, Error)]
+pub enum CommandError {
+    #[error("the words are no command")]
+    Bad,
+    #[error("out of memory")]
+    NoMemory,
+}
+
+/// The command that the words are. They don't contain the program's name.
+pub fn read_command(alloc: Global, words: &[Text]) -> Result<Command, CommandError>
+    ensures ok { IfOk result (λ found. command_of words.now ≡ Some (command found)) }
+    ensures bad { result ≡ Err CommandError.Bad → command_of words.now ≡ None }
+{
+    match words {
+        [word] if word.as_slice() == b"root".as_slice() => Ok(Command::Root),
+        _ => Err(CommandError::Bad),
+    }
+}

@@ -1,0 +1,47 @@
+ghost use Rattle.std.specs.Prelude.{◌≡◌, Some, None, IfOk, Err};
+ghost use Rattle.script_model.specs.Lines.{event_of};
+ghost use Rattle.script_io.specs.Shown.{event};
+
+use crate::hex_bytes::read_hex;
+use crate::words::cut_word;
+use base_core::Text;
+use std::alloc::Global;
+use thiserror::Error;
+
+/// What a line of a script asks for.
+#[derive(Debug, Drop)]
+pub enum Event {
+    /// Sets the value of a key.
+    Set { key: Text, value: Text },
+}
+
+#[derive(Debug, Drop, Error)]
+pub enum EventError {
+    #[error("the line is none of a script")]
+    Bad,
+    #[error("out of memory")]
+    NoMemory,
+}
+
+const LONGEST_KEY: usize = 2114;
+
+const LONGEST_VALUE: usize = 4194304;
+
+/// What a line asks for. Its line feed is no part of it.
+pub fn read_event(alloc: Global, line: &[u8]) -> Result<Event, EventError>
+    ensures ok { IfOk result (λ found. event_of line.now ≡ Some (event found)) }
+    ensures bad { result ≡ Err EventError.Bad → event_of line.now ≡ None }
+{
+    let Some((word, rest)) = cut_word(line) else {
+        return Err(EventError::Bad);
+    };
+    if word != b"set".as_slice() {
+        return Err(EventError::Bad);
+    }
+    let Some((key, value)) = cut_word(rest) else {
+        return Err(EventError::Bad);
+    };
+    let key = read_hex(alloc, key, LONGEST_KEY)?;
+    let value = read_hex(alloc, value, LONGEST_VALUE)?;
+    Ok(Event::Set { key, value })
+}

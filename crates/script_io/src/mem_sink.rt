@@ -1,0 +1,93 @@
+ghost use Rattle.std.specs.Prelude.{◌≡◌, ◌≤◌, [], IfOk, IsErr, IsTrue, ◌↔◌, length, Some};
+ghost use Rattle.base_core.specs.Faults.{IsCounted};
+ghost use Rattle.script_io.specs.Streams.{IsTaken, Writes};
+ghost use Rattle.script_io.specs.Memory.{Stock, refuses, taken, after_write};
+
+use crate::sink::Sink;
+use base_core::Fault;
+use std::alloc::{AllocError, Global};
+use std::marker::Model;
+
+/// A sink in memory, which takes bytes in pieces of a chosen length up to a chosen number, and fails
+/// at chosen calls.
+#[derive(Debug, Drop)]
+pub struct MemSink {
+    bytes: Vec<u8>,
+    most: u64,
+    piece: u64,
+    fails: Vec<u64>,
+    calls: u64,
+    faults: u64,
+}
+
+impl Model for MemSink {
+    ghost use Rattle.std.specs.Prelude.{◌≤◌, length, vec_capacity};
+    ghost use Rattle.script_io.specs.Memory.{Stock};
+    ghost use Rattle.script_io.specs.SinkRoom.{HasRoom};
+
+    ghost Value = { Stock };
+
+    ghost view = { λ sink. record {
+      bytes = sink.bytes.items;
+      most = sink.most;
+      piece = sink.piece;
+      fails = sink.fails.items;
+      calls = sink.calls;
+      faults = sink.faults;
+    } };
+
+    ghost invariant = { λ sink. HasRoom (length sink.bytes.items) (vec_capacity sink.bytes) sink.most sink.piece };
+}
+
+impl MemSink {
+    /// An empty sink. It holds at most `most` bytes, for which it takes the memory now, and answers a
+    /// fault past them. A write takes at most `piece` bytes. Writes are numbered from 1, and those
+    /// whose numbers are in `fails` answer a fault.
+    pub fn new(alloc: Global, most: u64, piece: u64, fails: &[u64]) -> Result<MemSink, AllocError>
+        requires { 1 ≤ piece }
+        ensures { IfOk result (λ sink. sink ≡ record { bytes = []; most = most; piece = piece; fails = fails.now; calls = 0; faults = 0 }) }
+    {
+        Ok(MemSink {
+            bytes: Vec::with_capacity(alloc, most as usize)?,
+            most,
+            piece,
+            fails: Vec::from_slice(alloc, fails)?,
+            calls: 0,
+            faults: 0,
+        })
+    }
+
+    /// What was written. It takes no memory.
+    pub fn bytes(&self) -> &[u8]
+        ensures { result.now ≡ self.now.bytes }
+    {
+        self.bytes.as_slice()
+    }
+}
+
+impl Sink for MemSink {
+    ghost use Rattle.std.specs.Prelude.{Some};
+
+    ghost written = { λ sink. Some sink.bytes };
+
+    ghost faults = { λ sink. sink.faults };
+
+    fn write(&mut self, piece: &[u8]) -> Result<usize, Fault>
+        ensures taken { IfOk result (IsTaken piece.now) }
+        ensures bytes { Writes self.old.bytes (Some self.new.bytes) piece.now result }
+        ensures counted { IsCounted self.old.faults self.new.faults result }
+        ensures fails { IsErr result ↔ IsTrue (refuses self.old piece.now) }
+        ensures takes { IfOk result (λ n. n ≡ taken self.old piece.now) }
+        ensures after { self.new ≡ after_write self.old piece.now }
+    {
+        self.calls = self.calls.saturating_add(1);
+        let room = self.most - self.bytes.len() as u64;
+        let n = (piece.len() as u64).min(room).min(self.piece) as usize;
+        if self.fails.contains(&self.calls) || (n == 0 && !piece.is_empty()) {
+            self.faults = self.faults.saturating_add(1);
+            return Err(Fault);
+        }
+        let _ = self.bytes.extend_from_slice(&piece[..n]);
+        Ok(n)
+    }
+}

@@ -1,0 +1,31 @@
+-- The small spellings: byte strings in hexadecimal, and what keys and values may be. All of them are this project's own.
+use Rattle.std.specs.Prelude.{ℕ, ◌==◌, nat_le, List, [], length, codes, Option, None, Some, if◌then◌else◌}
+use Rattle.std.specs.Result.{result_ok}
+use Rattle.std.specs.Str.{bytes_eq}
+use Rattle.hex.specs.Hex.{decode_of, encode_lower}
+use Rattle.byte_model.specs.Node.{longest_value}
+use Rattle.trie_model.specs.State.{longest_key}
+
+-- no bytes are written `-`
+abbrev pub no_bytes : List ℕ
+no_bytes = codes "-"
+
+-- The bytes of a hexadecimal text: an even number of digits in either case, at least two; or `-`.
+unfoldable pub hex_bytes : List ℕ → Option (List ℕ)
+hex_bytes text = if bytes_eq text no_bytes then Some [] else if length text == 0 then None else result_ok (decode_of text)
+
+-- the one text that is written for some bytes, in lower case
+unfoldable pub hex_text : List ℕ → List ℕ
+hex_text bytes = if length bytes == 0 then no_bytes else encode_lower bytes
+
+-- bytes, if they are at most so many
+abbrev pub at_most : ℕ → Option (List ℕ) → Option (List ℕ)
+at_most limit None = None
+at_most limit (Some bytes) = if nat_le (length bytes) limit then Some bytes else None
+
+-- the key and the value that a text writes
+unfoldable pub key_of : List ℕ → Option (List ℕ)
+key_of text = at_most longest_key (hex_bytes text)
+
+unfoldable pub value_of : List ℕ → Option (List ℕ)
+value_of text = at_most longest_value (hex_bytes text)

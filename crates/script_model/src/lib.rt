@@ -1,0 +1,2 @@
+//! The language of the program: command words, script lines and their small spellings.
+#![tactic(auto)]
