@@ -1,2 +1,4 @@
 //! The state of a shard and its canonical trie.
 #![tactic(auto)]
+
+mod examples;
