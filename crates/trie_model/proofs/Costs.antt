@@ -80,12 +80,12 @@ branch_cost (Some value) = refl
 adds_up : (rows : List Row) → AddsUp rows (tree_of rows)
 unfolding usage top_cost node_of own_cost
 adds_up = by_cases (λ rows. AddsUp rows (tree_of rows)) (record {
-      none = subst (AddsUp []) (sym tree_of-nil) tt;
-      one = λ row. subst (AddsUp (row ∷ [])) (sym (tree_of-one row)) (sym (add-zero _));
-      forks = λ row next rows e further. subst (AddsUp (row ∷ next ∷ rows)) (sym (tree_of-forks row next rows e))
-        (ap (λ n. n + sum_below (λ x. usage (tree_of (below (x ∷ []) (row ∷ next ∷ rows)))) 16) (branch_cost (ends_here (row ∷ next ∷ rows))));
-      shares = λ row next rows x front e further. subst (AddsUp (row ∷ next ∷ rows)) (sym (tree_of-shares row next rows x front e)) refl
-    })
+  none = subst (AddsUp []) (sym tree_of-nil) tt;
+  one = λ row. subst (AddsUp (row ∷ [])) (sym (tree_of-one row)) (sym (add-zero _));
+  forks = λ row next rows e further. subst (AddsUp (row ∷ next ∷ rows)) (sym (tree_of-forks row next rows e))
+      (ap (λ n. n + sum_below (λ x. usage (tree_of (below (x ∷ []) (row ∷ next ∷ rows)))) 16) (branch_cost (ends_here (row ∷ next ∷ rows))));
+  shares = λ row next rows x front e further. subst (AddsUp (row ∷ next ∷ rows)) (sym (tree_of-shares row next rows x front e)) refl;
+})
 
 children_usage-children_of : (state : State) (place : List ℕ) (node : Node) → children_usage state place node ≡ children_of (below place (rows_of state)) node
 unfolding subtree_at
@@ -102,4 +102,4 @@ unfolding subtree_at
 usage-node_of state place =
     let rows = below place (rows_of state) in
     IfSome-weaker (node_of (tree_of rows)) (λ node. usage (tree_of rows) ≡ own_cost node + children_of rows node) (λ node. usage (tree_of rows) ≡ own_cost node + children_usage state place node)
-      (λ node h. h ∙ ap (λ n. own_cost node + n) (sym (children_usage-children_of state place node))) (adds_up rows)
+    (λ node h. h ∙ ap (λ n. own_cost node + n) (sym (children_usage-children_of state place node))) (adds_up rows)

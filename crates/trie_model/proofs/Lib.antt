@@ -6,3 +6,4 @@ pub mod Trees
 pub mod Places
 pub mod Costs
 pub mod Roots
+pub mod Children

@@ -69,8 +69,8 @@ in_joined_below_from f zero x h = absurd h
 in_joined_below_from f (suc n) x h =
     elim (in-append_cases (joined_below f n) (f n) x h) [
       | inl l ↦
-        let r = in_joined_below_from f n x l in
-        (r.0, omega (arith, r.1), r.2)
+          let r = in_joined_below_from f n x l in
+          (r.0, omega (arith, r.1), r.2)
       | inr r ↦ (n, omega arith, r)
     ]
 

@@ -45,23 +45,23 @@ unfolding places gathered
 gathers_branch {X} F rows value e further =
     let each : (x : ℕ) → x < 16 → map (at_place F rows) (behind (x ∷ []) (places (tree_of (below (x ∷ []) rows)))) ≡ gathered F (tree_of (below (x ∷ []) rows)) = λ x _. map-behind F rows (x ∷ []) _ ∙ further x in
     subst (λ t. map (at_place F rows) (places t) ≡ gathered F t) (sym e)
-      (ap₂ (λ (a : X) (others : List X). a ∷ others) (at_top F rows _ e)
-        (map-joined_below (at_place F rows) (λ x. behind (x ∷ []) (places (tree_of (below (x ∷ []) rows)))) 16 ∙ joined_below-agree _ _ 16 each))
+    (ap₂ (λ (a : X) (others : List X). a ∷ others) (at_top F rows _ e)
+    (map-joined_below (at_place F rows) (λ x. behind (x ∷ []) (places (tree_of (below (x ∷ []) rows)))) 16 ∙ joined_below-agree _ _ 16 each))
 
 gathers_extension : {X : Type 0} (F : Tree → X) (rows : List Row) (front : List ℕ) → tree_of rows ≡ extension front (tree_of (below front rows)) → Gathers F (below front rows) → Gathers F rows
 unfolding places gathered
 gathers_extension {X} F rows front e further =
     subst (λ t. map (at_place F rows) (places t) ≡ gathered F t) (sym e)
-      (ap₂ (λ (a : X) (others : List X). a ∷ others) (at_top F rows _ e) (map-behind F rows front _ ∙ further))
+    (ap₂ (λ (a : X) (others : List X). a ∷ others) (at_top F rows _ e) (map-behind F rows front _ ∙ further))
 
 -- The trie of the rows below a place is the subtree there.
 pub map-places : {X : Type 0} (F : Tree → X) (rows : List Row) → map (at_place F rows) (places (tree_of rows)) ≡ gathered F (tree_of rows)
 map-places F = by_cases (Gathers F) (record {
-      none = gathers_none F;
-      one = gathers_one F;
-      forks = λ row next rows e further. gathers_branch F (row ∷ next ∷ rows) _ (tree_of-forks row next rows e) further;
-      shares = λ row next rows x front e further. gathers_extension F (row ∷ next ∷ rows) (x ∷ front) (tree_of-shares row next rows x front e) further
-    })
+  none = gathers_none F;
+  one = gathers_one F;
+  forks = λ row next rows e further. gathers_branch F (row ∷ next ∷ rows) _ (tree_of-forks row next rows e) further;
+  shares = λ row next rows x front e further. gathers_extension F (row ∷ next ∷ rows) (x ∷ front) (tree_of-shares row next rows x front e) further;
+})
 
 -- the texts of a tree by recursion
 abbrev pub tree_texts : Tree → List (List ℕ)

@@ -47,14 +47,14 @@ front_and_rest (x ∷ front) (y ∷ path) rest e =
       | false ↦ λ t h. cc
     ] refl e
 
-heads : {x y : ℕ} {xs ys : List ℕ} → x ∷ xs ≡ y ∷ ys → x ≡ y
-heads e = cc
+pub first_same : {x y : ℕ} {xs ys : List ℕ} → x ∷ xs ≡ y ∷ ys → x ≡ y
+first_same e = cc
 
-tails : {x y : ℕ} {xs ys : List ℕ} → x ∷ xs ≡ y ∷ ys → xs ≡ ys
-tails e = cc
+pub rest_same : {x y : ℕ} {xs ys : List ℕ} → x ∷ xs ≡ y ∷ ys → xs ≡ ys
+rest_same e = cc
 
-cons_of_none : (x : ℕ) (xs : List ℕ) → [] ≡ x ∷ xs → ⊥
-cons_of_none x xs e = cc
+pub none_cons : (x : ℕ) (xs : List ℕ) → [] ≡ x ∷ xs → ⊥
+none_cons x xs e = cc
 
 AllByRecursion-weaker : {X : Type 0} (P Q : X → Type 0) → ((x : X) → P x → Q x) → (xs : List X) → AllByRecursion P xs → AllByRecursion Q xs
 AllByRecursion-weaker P Q weaker [] h = tt
@@ -157,12 +157,12 @@ common_front-all row (next ∷ rows) =
 pub common_longest : (front p q : List ℕ) → HasFront front p → HasFront front q → HasFront front (common p q)
 unfolding common
 common_longest [] p q h k = (common p q, refl)
-common_longest (x ∷ front) [] q h k = absurd (cons_of_none x _ h.1)
-common_longest (x ∷ front) (y ∷ p) [] h k = absurd (cons_of_none x _ k.1)
+common_longest (x ∷ front) [] q h k = absurd (none_cons x _ h.1)
+common_longest (x ∷ front) (y ∷ p) [] h k = absurd (none_cons x _ k.1)
 common_longest (x ∷ front) (y ∷ p) (z ∷ q) h k =
-    let first : y ≡ x = heads h.1 in
-    let second : z ≡ x = heads k.1 in
-    let further = common_longest front p q (h.0, tails h.1) (k.0, tails k.1) in
+    let first : y ≡ x = first_same h.1 in
+    let second : z ≡ x = first_same k.1 in
+    let further = common_longest front p q (h.0, rest_same h.1) (k.0, rest_same k.1) in
     let test : (y == z) ≡ true = rw (first, second) (same_nibble x) in
     rw test (further.0, ap₂ (λ (a : ℕ) (r : List ℕ). a ∷ r) first further.1)
 

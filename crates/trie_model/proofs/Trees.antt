@@ -66,8 +66,8 @@ tree_within-tree_within zero e rows h k = rw (no_rows rows h) (sym (tree_within-
 tree_within-tree_within (suc d) zero rows h k = rw (no_rows rows k) refl
 tree_within-tree_within (suc d) (suc e) rows h k =
     tree_by-agree (tree_within d) (tree_within e) rows (λ x front.
-      let n = needed-below x front rows in
-      tree_within-tree_within d e (below (x ∷ front) rows) (omega arith) (omega arith))
+    let n = needed-below x front rows in
+    tree_within-tree_within d e (below (x ∷ front) rows) (omega arith) (omega arith))
 
 -- a bound above the longest path suffices
 pub tree_within-enough : (d : ℕ) (rows : List Row) → longest rows < d → tree_within d rows ≡ tree_of rows
@@ -121,8 +121,8 @@ within_cases P cases d [] h = cases.none
 within_cases P cases d (row ∷ []) h = cases.one row
 within_cases P cases zero (row ∷ next ∷ rows) h = absurd (empty_bound row (next ∷ rows) h)
 within_cases P cases (suc d) (row ∷ next ∷ rows) h = go (common_front row (next ∷ rows)) refl (λ x front.
-      let n = needed-below x front (row ∷ next ∷ rows) in
-      within_cases P cases d (below (x ∷ front) (row ∷ next ∷ rows)) (omega arith))
+    let n = needed-below x front (row ∷ next ∷ rows) in
+    within_cases P cases d (below (x ∷ front) (row ∷ next ∷ rows)) (omega arith))
   where
     go : (front : List ℕ) → common_front row (next ∷ rows) ≡ front → ((x : ℕ) (front : List ℕ) → P (below (x ∷ front) (row ∷ next ∷ rows))) → P (row ∷ next ∷ rows)
     go [] e further = cases.forks row next rows e (λ x. further x [])
