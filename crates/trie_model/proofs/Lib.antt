@@ -7,3 +7,4 @@ pub mod Places
 pub mod Costs
 pub mod Roots
 pub mod Children
+pub mod Order
