@@ -8,3 +8,4 @@ pub mod Costs
 pub mod Roots
 pub mod Children
 pub mod Order
+pub mod Pairs
