@@ -36,12 +36,13 @@ before_by_first x y p q h = ap (λ o. ordering_then o (slice_cmp nat_cmp p q)) (
 pub rising-append : (ps qs : List (List ℕ)) → Rising ps → Rising qs → ((p q : List ℕ) → IsIn ps p → IsIn qs q → Before p q) → Rising (ps ++ qs)
 unfolding IsStrictlySortedBy
 rising-append [] qs h k across = k
-rising-append (p ∷ ps) qs h k across =
-    (all_of (λ q. Before p q) (ps ++ qs) (λ q i. elim (in-append_cases ps qs q i) [
-        | inl l ↦ all_at (λ r. Before p r) ps q h.0 l
-        | inr r ↦ across p q (inl refl) r
-      ]),
-     rising-append ps qs h.1 k (λ r q i j. across r q (inr i) j))
+rising-append (p ∷ ps) qs h k across = (
+  all_of (λ q. Before p q) (ps ++ qs) (λ q i. elim (in-append_cases ps qs q i) [
+    | inl l ↦ all_at (λ r. Before p r) ps q h.0 l
+    | inr r ↦ across p q (inl refl) r
+  ]),
+  rising-append ps qs h.1 k (λ r q i j. across r q (inr i) j),
+)
 
 all_behind : (front p : List ℕ) (qs : List (List ℕ)) → AllByRecursion (λ q. Before p q) qs → AllByRecursion (λ q. Before (front ++ p) q) (behind front qs)
 all_behind front p [] h = tt
@@ -57,11 +58,11 @@ unfolding joined_below IsStrictlySortedBy
 rising-joined_below ps zero each = tt
 rising-joined_below ps (suc n) each =
     rising-append (joined_below (λ x. behind (x ∷ []) (ps x)) n) (behind (n ∷ []) (ps n)) (rising-joined_below ps n each) (rising-behind (n ∷ []) (ps n) (each n)) (λ p q i j.
-      let lower = in_joined_below_from (λ x. behind (x ∷ []) (ps x)) n p i in
-      let first = in_map_from (λ (r : List ℕ). lower.0 ∷ r) (ps lower.0) p lower.2 in
-      let second = in_map_from (λ (r : List ℕ). n ∷ r) (ps n) q j in
-      let apart : Before (lower.0 ∷ first.0) (n ∷ second.0) = before_by_first lower.0 n first.0 second.0 lower.1 in
-      subst (λ r. Before p r) second.2 (subst (λ r. Before r (n ∷ second.0)) first.2 apart))
+    let lower = in_joined_below_from (λ x. behind (x ∷ []) (ps x)) n p i in
+    let first = in_map_from (λ (r : List ℕ). lower.0 ∷ r) (ps lower.0) p lower.2 in
+    let second = in_map_from (λ (r : List ℕ). n ∷ r) (ps n) q j in
+    let apart : Before (lower.0 ∷ first.0) (n ∷ second.0) = before_by_first lower.0 n first.0 second.0 lower.1 in
+    subst (λ r. Before p r) second.2 (subst (λ r. Before r (n ∷ second.0)) first.2 apart))
 
 -- the empty path stands before each path behind a nibble
 first_of_all : (x : ℕ) (front : List ℕ) (ps : List (List ℕ)) → AllByRecursion (λ q. Before [] q) (behind (x ∷ front) ps)
@@ -70,21 +71,21 @@ first_of_all x front (p ∷ ps) = (refl, first_of_all x front ps)
 
 first_of_joined : (ps : ℕ → List (List ℕ)) (n : ℕ) → AllByRecursion (λ q. Before [] q) (joined_below (λ x. behind (x ∷ []) (ps x)) n)
 first_of_joined ps n = all_of (λ q. Before [] q) (joined_below (λ x. behind (x ∷ []) (ps x)) n) (λ q i.
-      let r = in_joined_below_from (λ x. behind (x ∷ []) (ps x)) n q i in
-      all_at (λ p. Before [] p) (behind (r.0 ∷ []) (ps r.0)) q (first_of_all r.0 [] (ps r.0)) r.2)
+    let r = in_joined_below_from (λ x. behind (x ∷ []) (ps x)) n q i in
+    all_at (λ p. Before [] p) (behind (r.0 ∷ []) (ps r.0)) q (first_of_all r.0 [] (ps r.0)) r.2)
 
 pub rising-places : (rows : List Row) → Rising (places (tree_of rows))
 unfolding places IsStrictlySortedBy
 rising-places = by_cases (λ rows. Rising (places (tree_of rows))) (record {
-      none = subst (λ t. Rising (places t)) (sym tree_of-nil) tt;
-      one = λ row. subst (λ t. Rising (places t)) (sym (tree_of-one row)) (tt, tt);
-      forks = λ row next rows e further.
-        let kids : ℕ → List (List ℕ) = λ x. places (tree_of (below (x ∷ []) (row ∷ next ∷ rows))) in
-        subst (λ t. Rising (places t)) (sym (tree_of-forks row next rows e)) (first_of_joined kids 16, rising-joined_below kids 16 further);
-      shares = λ row next rows x front e further.
-        let child : List (List ℕ) = places (tree_of (below (x ∷ front) (row ∷ next ∷ rows))) in
-        subst (λ t. Rising (places t)) (sym (tree_of-shares row next rows x front e)) (first_of_all x front child, rising-behind (x ∷ front) child further)
-    })
+  none = subst (λ t. Rising (places t)) (sym tree_of-nil) tt;
+  one = λ row. subst (λ t. Rising (places t)) (sym (tree_of-one row)) (tt, tt);
+  forks = λ row next rows e further.
+      let kids : ℕ → List (List ℕ) = λ x. places (tree_of (below (x ∷ []) (row ∷ next ∷ rows))) in
+      subst (λ t. Rising (places t)) (sym (tree_of-forks row next rows e)) (first_of_joined kids 16, rising-joined_below kids 16 further);
+  shares = λ row next rows x front e further.
+      let child : List (List ℕ) = places (tree_of (below (x ∷ front) (row ∷ next ∷ rows))) in
+      subst (λ t. Rising (places t)) (sym (tree_of-shares row next rows x front e)) (first_of_all x front child, rising-behind (x ∷ front) child further);
+})
 
 pub rising-places_of : (state : State) → Rising (places_of state)
 rising-places_of state = subst (λ t. Rising (places t)) (sym (subtree_at-root state)) (rising-places (rows_of state))
@@ -139,6 +140,9 @@ rising-below front (row ∷ rows) h =
     let further = rising-below front rows h.1 in
     elim (rest_behind front row.0) as (λ r. rest_behind front row.0 ≡ r → RisingRows (cons_option (option_map (λ rest. (rest, row.1)) r) (below front rows))) [
       | None ↦ λ e. further
-      | Some rest ↦ λ e. (all-below (λ later. Before row.0 later.0) (λ later. Before rest later.0) front (λ later rest' e' b.
-            sym (slice_cmp-front front rest rest') ∙ ap₂ (slice_cmp nat_cmp) (sym (front_and_rest front row.0 rest e)) (sym (front_and_rest front later.0 rest' e')) ∙ b) rows h.0, further)
+      | Some rest ↦ λ e. (
+        all-below (λ later. Before row.0 later.0) (λ later. Before rest later.0) front (λ later rest' e' b.
+            sym (slice_cmp-front front rest rest') ∙ ap₂ (slice_cmp nat_cmp) (sym (front_and_rest front row.0 rest e)) (sym (front_and_rest front later.0 rest' e')) ∙ b) rows h.0,
+        further,
+      )
     ] refl

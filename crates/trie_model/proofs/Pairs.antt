@@ -88,9 +88,9 @@ branch_holds rows value e further =
     let kids : ℕ → Tree = λ x. tree_of (below (x ∷ []) rows) in
     let each : (x : ℕ) → x < 16 → filter_map (held_below rows) (behind (x ∷ []) (places (kids x))) ≡ under (x ∷ []) (held (kids x)) = λ x _. filter_map-behind (x ∷ []) rows (places (kids x)) ∙ ap (under (x ∷ [])) (further x) in
     subst (λ t. filter_map (held_below rows) (places t) ≡ held t) (sym e)
-      (ap₂ (λ (o : Option Row) (rs : List Row). cons_option o rs) (top_held rows (branch value kids) e)
-        (filter_map-joined_below (held_below rows) (λ x. behind (x ∷ []) (places (kids x))) 16 ∙ joined_below-agree _ _ 16 each)
-      ∙ go value (joined_below (λ x. under (x ∷ []) (held (kids x))) 16))
+    (ap₂ (λ (o : Option Row) (rs : List Row). cons_option o rs) (top_held rows (branch value kids) e)
+    (filter_map-joined_below (held_below rows) (λ x. behind (x ∷ []) (places (kids x))) 16 ∙ joined_below-agree _ _ 16 each)
+    ∙ go value (joined_below (λ x. under (x ∷ []) (held (kids x))) 16))
   where
     go : (v : Option (List ℕ)) (rs : List Row) → cons_option (option_map (λ w. ([], w)) v) rs ≡ here v ++ rs
     go None rs = refl
@@ -101,17 +101,17 @@ unfolding places held held_by
 extension_holds rows front e further =
     let child = tree_of (below front rows) in
     subst (λ t. filter_map (held_below rows) (places t) ≡ held t) (sym e)
-      (ap₂ (λ (o : Option Row) (rs : List Row). cons_option o rs) (top_held rows (extension front child) e)
-        (filter_map-behind front rows (places child) ∙ ap (under front) further))
+    (ap₂ (λ (o : Option Row) (rs : List Row). cons_option o rs) (top_held rows (extension front child) e)
+    (filter_map-behind front rows (places child) ∙ ap (under front) further))
 
 pub filter_map-places : (rows : List Row) → filter_map (held_below rows) (places (tree_of rows)) ≡ held (tree_of rows)
 unfolding places held held_by
 filter_map-places = by_cases Holds (record {
-      none = subst (λ t. filter_map (held_below []) (places t) ≡ held t) (sym tree_of-nil) refl;
-      one = λ row. subst (λ t. filter_map (held_below (row ∷ [])) (places t) ≡ held t) (sym (tree_of-one row)) (ap (λ (o : Option Row). cons_option o []) (top_held (row ∷ []) (leaf row.0 row.1) (tree_of-one row)));
-      forks = λ row next rows e further. branch_holds (row ∷ next ∷ rows) _ (tree_of-forks row next rows e) further;
-      shares = λ row next rows x front e further. extension_holds (row ∷ next ∷ rows) (x ∷ front) (tree_of-shares row next rows x front e) further
-    })
+  none = subst (λ t. filter_map (held_below []) (places t) ≡ held t) (sym tree_of-nil) refl;
+  one = λ row. subst (λ t. filter_map (held_below (row ∷ [])) (places t) ≡ held t) (sym (tree_of-one row)) (ap (λ (o : Option Row). cons_option o []) (top_held (row ∷ []) (leaf row.0 row.1) (tree_of-one row)));
+  forks = λ row next rows e further. branch_holds (row ∷ next ∷ rows) _ (tree_of-forks row next rows e) further;
+  shares = λ row next rows x front e further. extension_holds (row ∷ next ∷ rows) (x ∷ front) (tree_of-shares row next rows x front e) further;
+})
 
 -- ---- rising rows by their first nibbles
 
@@ -165,10 +165,10 @@ joined_below-first f g row y (suc n) h none same first =
     elim (cases_lt y n) [
       | inl l ↦ ap₂ (λ (a b : List Row). a ++ b) (joined_below-first f g row y n l none same first) (same n (omega arith))
       | inr r ↦
-        let last : y ≡ n = omega arith in
-        let empty_f : joined_below f n ≡ [] = joined_none f n (λ x k. none x (omega arith)) in
-        let empty_g : joined_below g n ≡ [] = joined_none g n (λ x k. same x (omega arith) ∙ none x (omega arith)) in
-        ap (λ (a : List Row). a ++ g n) empty_g ∙ subst (λ m. g m ≡ row ∷ f m) last first ∙ ap (λ (a : List Row). row ∷ (a ++ f n)) (sym empty_f)
+          let last : y ≡ n = omega arith in
+          let empty_f : joined_below f n ≡ [] = joined_none f n (λ x k. none x (omega arith)) in
+          let empty_g : joined_below g n ≡ [] = joined_none g n (λ x k. same x (omega arith) ∙ none x (omega arith)) in
+          ap (λ (a : List Row). a ++ g n) empty_g ∙ subst (λ m. g m ≡ row ∷ f m) last first ∙ ap (λ (a : List Row). row ∷ (a ++ f n)) (sym empty_f)
     ]
 
 abbrev pub Small : List Row → Type 0
@@ -227,20 +227,20 @@ small-below front rows small = all-below (λ row. AreNibbles row.0) (λ row. Are
 pub held-tree_of : (rows : List Row) → RisingRows rows → Small rows → held (tree_of rows) ≡ rows
 unfolding held
 held-tree_of = by_cases (λ rows. RisingRows rows → Small rows → held (tree_of rows) ≡ rows) (record {
-      none = λ rising small. ap held tree_of-nil;
-      one = λ row rising small. ap held (tree_of-one row);
-      forks = λ row next rows e further rising small.
-        let rs : List Row = row ∷ next ∷ rows in
-        ap held (tree_of-forks row next rows e)
-        ∙ ap (λ (held_rows : List Row). here (ends_here rs) ++ held_rows) (joined_below-agree _ (by_nibble rs) 16 (λ x h. ap (under (x ∷ [])) (further x (rising-below (x ∷ []) rs rising) (small-below (x ∷ []) rs small))))
-        ∙ rows_by_nibble rs rising small;
-      shares = λ row next rows x front e further rising small.
-        let rs : List Row = row ∷ next ∷ rows in
-        let all = subst (λ (f : List ℕ). AllHaveFront f rs) e (common_front-all row (next ∷ rows)) in
-        ap held (tree_of-shares row next rows x front e)
-        ∙ ap (under (x ∷ front)) (further (rising-below (x ∷ front) rs rising) (small-below (x ∷ front) rs small))
-        ∙ under-below (x ∷ front) rs all
-    })
+  none = λ rising small. ap held tree_of-nil;
+  one = λ row rising small. ap held (tree_of-one row);
+  forks = λ row next rows e further rising small.
+      let rs : List Row = row ∷ next ∷ rows in
+      ap held (tree_of-forks row next rows e)
+      ∙ ap (λ (held_rows : List Row). here (ends_here rs) ++ held_rows) (joined_below-agree _ (by_nibble rs) 16 (λ x h. ap (under (x ∷ [])) (further x (rising-below (x ∷ []) rs rising) (small-below (x ∷ []) rs small))))
+      ∙ rows_by_nibble rs rising small;
+  shares = λ row next rows x front e further rising small.
+      let rs : List Row = row ∷ next ∷ rows in
+      let all = subst (λ (f : List ℕ). AllHaveFront f rs) e (common_front-all row (next ∷ rows)) in
+      ap held (tree_of-shares row next rows x front e)
+      ∙ ap (under (x ∷ front)) (further (rising-below (x ∷ front) rs rising) (small-below (x ∷ front) rs small))
+      ∙ under-below (x ∷ front) rs all;
+})
 
 -- ---- of a state
 
