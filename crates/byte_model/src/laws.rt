@@ -6,6 +6,8 @@ ghost use Rattle.std.specs.Cmp.Lexicographic.{slice_cmp};
 ghost use Rattle.byte_model.specs.Borsh.{borsh_u16, borsh_u32, borsh_u64};
 ghost use Rattle.byte_model.specs.Nibbles.{AreBytes, AreNibbles, nibbles};
 ghost use Rattle.byte_model.specs.PackedPath.{packed};
+ghost use Rattle.byte_model.specs.Node.{Node, spelled};
+ghost use Rattle.byte_model.specs.Laws.{FitsRecord, SameNode};
 
 /// Each integer takes the bytes of its width, and no two integers are spelled alike.
 pub fn integers_are_spelled_apart()
@@ -29,4 +31,9 @@ pub fn nibbles_keep_keys_apart()
 pub fn paths_are_packed_apart()
     ensures apart { (leaf other : Bool) (p q : List ℕ) → AreNibbles p → AreNibbles q → packed leaf p ≡ packed other q → (leaf ≡ other) × (p ≡ q) }
     ensures count { (leaf : Bool) (path : List ℕ) → length (packed leaf path) ≡ length path / 2 + 1 }
+{}
+
+/// No two nodes are spelled alike, and none with two usages, where their parts fit the fields of a record.
+pub fn nodes_are_spelled_apart()
+    ensures { (m n : Node) (usage other : ℕ) → FitsRecord m → FitsRecord n → usage < 2 ^ 64 → other < 2 ^ 64 → spelled m usage ≡ spelled n other → SameNode m n × (usage ≡ other) }
 {}

@@ -1,4 +1,4 @@
 //! The bytes of the store's records.
 #![tactic(auto)]
 
-mod laws;
+pub mod laws;
