@@ -1,2 +1,5 @@
 //! The state of a shard and its canonical trie.
 #![tactic(auto)]
+
+pub mod examples;
+pub mod laws;
