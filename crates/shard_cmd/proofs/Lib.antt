@@ -1,0 +1,4 @@
+pub mod OnePair
+pub mod RootReplies
+pub mod LongInputs
+pub mod Runs

@@ -1,0 +1,24 @@
+-- How the status of a run and the bytes that it wrote stand to the output that is defined.
+use Rattle.std.specs.Prelude.{◌≡◌, ℕ, List, ◌++◌, Option, None, Some, ◌⊎◌}
+use Rattle.output_model.specs.Output.{Output, Ending, done, usage, refused}
+use Rattle.script_io.specs.Streams.{AppendsFront}
+use Rattle.shard_cmd.specs.declared.status.Status.{Status}
+use Rattle.shard_cmd.specs.declared.status.Status.TheVariants.{Done, NoMemory, Usage, Refused, ReadFault, WriteFault}
+
+-- the ending that a status stands for, unless memory or an object of the outside failed
+abbrev pub ending_of : Status → Option Ending
+ending_of Done = Some done
+ending_of NoMemory = None
+ending_of Usage = Some usage
+ending_of Refused = Some refused
+ending_of ReadFault = None
+ending_of WriteFault = None
+
+-- The status is the defined ending, and all defined bytes were written and nothing else. Where memory or an object of the outside failed, a front of them was.
+abbrev pub EndsAs : Output → Option Ending → List ℕ → Option (List ℕ) → Type 0
+EndsAs output (Some ending) before after = (ending ≡ output.ending) × (after ≡ Some (before ++ output.bytes))
+EndsAs output None before after = AppendsFront before after output.bytes
+
+-- what a run may end with whose words are no command
+abbrev pub IsUsageUnlessFailed : Status → Type 0
+IsUsageUnlessFailed status = (status ≡ Usage) ⊎ (status ≡ NoMemory) ⊎ (status ≡ WriteFault)

@@ -1,0 +1,12 @@
+//! The top call: a run of the program, from the command words and the bytes that come in to the bytes
+//! that go out.
+#![tactic(auto)]
+
+mod reply;
+mod root;
+mod running;
+mod single;
+mod status;
+
+pub use running::run;
+pub use status::Status;

@@ -1,0 +1,77 @@
+ghost use Rattle.std.specs.Prelude.{◌≡◌, ◌≤◌, ◌⊎◌, ◌≢◌, [], Some, None, IfSome};
+ghost use Rattle.base_core.specs.Bounds.{AreLimits};
+ghost use Rattle.base_core.specs.Faults.{Rose};
+ghost use Rattle.script_model.specs.Words.{command_of};
+ghost use Rattle.output_model.specs.Root.{state_of};
+ghost use Rattle.output_model.specs.Output.{Output, output_of, root_output};
+ghost use Rattle.shard_cmd.specs.Ends.{ending_of, EndsAs, IsUsageUnlessFailed};
+
+use crate::root::answer_root;
+use crate::status::Status;
+use base_core::{Limits, Text};
+use script_io::{Command, CommandError, Sink, Source, put, read_command};
+use std::alloc::Global;
+
+/// Carries out the command that the words are, which don't contain the program's name, on the input
+/// of the source, and writes to the sink what the command gives.
+pub fn run<S: Source, K: Sink>(
+    alloc: Global,
+    words: &[Text],
+    source: &mut S,
+    sink: &mut K,
+    limits: &Limits,
+) -> Status
+    requires { AreLimits limits.now }
+
+    // The bytes that come in and those that go out, and the status with them.
+    ensures output { IfSome (S.left source.old) (λ input. IfSome (K.written sink.old) (λ before.
+        EndsAs (output_of words.now input) (ending_of result) before (K.written sink.new))) }
+    ensures nothing_left { result ≡ Status.Done → IfSome (S.left source.old) (λ _. S.left source.new ≡ Some []) }
+
+    // Words that are no command, also where the source and the sink tell nothing.
+    ensures usage { result ≡ Status.Usage → command_of words.now ≡ None }
+    ensures no_command { command_of words.now ≡ None → IsUsageUnlessFailed result }
+    ensures unread { command_of words.now ≡ None → source.new ≡ source.old }
+
+    // A fault of the outside has a cause.
+    ensures source_counts { S.faults source.old ≤ S.faults source.new }
+    ensures sink_counts { K.faults sink.old ≤ K.faults sink.new }
+    ensures read_fault { result ≡ Status.ReadFault → Rose (S.faults source.old) (S.faults source.new) }
+    ensures write_fault { result ≡ Status.WriteFault → Rose (K.faults sink.old) (K.faults sink.new) }
+{
+    match read_command(alloc, words) {
+        Ok(Command::Root) => run_root(alloc, source, sink),
+        Err(CommandError::Bad) => finish(sink, b"bad command\n", Status::Usage),
+        Err(CommandError::NoMemory) => Status::NoMemory,
+    }
+}
+
+/// The command `root`.
+fn run_root<S: Source, K: Sink>(alloc: Global, source: &mut S, sink: &mut K) -> Status
+    ensures output { IfSome (S.left source.old) (λ input. IfSome (K.written sink.old) (λ before.
+        EndsAs (root_output (state_of input)) (ending_of result) before (K.written sink.new))) }
+    ensures nothing_left { result ≡ Status.Done → IfSome (S.left source.old) (λ _. S.left source.new ≡ Some []) }
+    ensures no_usage { result ≢ Status.Usage }
+    ensures source_counts { S.faults source.old ≤ S.faults source.new }
+    ensures sink_counts { K.faults sink.old ≤ K.faults sink.new }
+    ensures read_fault { result ≡ Status.ReadFault → Rose (S.faults source.old) (S.faults source.new) }
+    ensures write_fault { result ≡ Status.WriteFault → Rose (K.faults sink.old) (K.faults sink.new) }
+{
+    match answer_root(alloc, source) {
+        Ok(reply) => finish(sink, reply.bytes.as_slice(), reply.status),
+        Err(status) => status,
+    }
+}
+
+/// Writes the last bytes of a run, and answers the status once they are written.
+fn finish<K: Sink>(sink: &mut K, bytes: &[u8], status: Status) -> Status
+    ensures output { (output : Output) → bytes.now ≡ output.bytes → ending_of status ≡ Some output.ending →
+        IfSome (K.written sink.old) (λ before. EndsAs output (ending_of result) before (K.written sink.new)) }
+    ensures status { (result ≡ status) ⊎ ((result ≡ Status.WriteFault) × Rose (K.faults sink.old) (K.faults sink.new)) }
+    ensures sink_counts { K.faults sink.old ≤ K.faults sink.new }
+{
+    match put(sink, bytes) {
+        Ok(()) => status,
+        Err(_) => Status::WriteFault,
+    }
+}

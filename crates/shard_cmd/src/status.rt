@@ -1,0 +1,16 @@
+/// How a run ended. As a number it is the exit status of the program.
+#[derive(Clone, Copy, Debug, PartialEq, Eq)]
+pub enum Status {
+    /// The input was read to its end, and all was written.
+    Done = 0,
+    /// There was no memory. Nothing more is written.
+    NoMemory = 1,
+    /// The words are no command. Nothing was read.
+    Usage = 2,
+    /// What was asked for is refused, by the name that was written.
+    Refused = 4,
+    /// The source failed.
+    ReadFault = 5,
+    /// The sink failed.
+    WriteFault = 6,
+}
