@@ -9,3 +9,4 @@ pub mod Roots
 pub mod Children
 pub mod Order
 pub mod Pairs
+pub mod Growth
