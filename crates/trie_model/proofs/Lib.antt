@@ -10,3 +10,5 @@ pub mod Children
 pub mod Order
 pub mod Pairs
 pub mod Growth
+pub mod Bounds
+pub mod Shapes

@@ -1,12 +1,13 @@
 //! Laws over the definitions, in other words than theirs. A law is proved where its function is: there is nothing to run.
 
-ghost use Rattle.std.specs.Prelude.{◌≡◌, ◌≢◌, ◌+◌, ◌<◌, ◌↔◌, ℕ, List, [], ◌∷◌, ◌++◌, length, sum_by, filter_map, Contains, IfSome, IsNone};
+ghost use Rattle.std.specs.Prelude.{◌≡◌, ◌≢◌, ◌+◌, ◌^◌, ◌<◌, ◌↔◌, ℕ, List, [], ◌∷◌, ◌++◌, length, sum_by, filter_map, Contains, IfSome, IsNone};
 ghost use Rattle.std.specs.Ordering.{nat_cmp};
 ghost use Rattle.std.specs.List.Sorted.{IsStrictlySortedBy};
 ghost use Rattle.std.specs.Cmp.Lexicographic.{slice_cmp};
 ghost use Rattle.std.specs.FinMap.{empty};
 ghost use Rattle.sha2.specs.Sha256.{sha256};
-ghost use Rattle.byte_model.specs.Node.{own_cost, spelled};
+ghost use Rattle.byte_model.specs.Node.{IsShaped, own_cost, spelled};
+ghost use Rattle.byte_model.specs.Laws.{FitsRecord};
 ghost use Rattle.trie_model.specs.State.{State, Row, IsState, rows_of};
 ghost use Rattle.trie_model.specs.Tree.{below, longest, nothing, tree_by, tree_of, tree_within};
 ghost use Rattle.trie_model.specs.Texts.{node_of, top_cost, usage};
@@ -38,6 +39,16 @@ pub fn usage_sums_costs()
 /// A node names its children by the digests of their texts.
 pub fn children_are_named_by_digests()
     ensures { (state : State) (place : List ℕ) → IfSome (node_of (subtree_at state place)) (NamesChildren state place) }
+{}
+
+/// Usages stay far below the end of eight bytes.
+pub fn usage_is_small()
+    ensures { (state : State) → IsState state → (place : List ℕ) → usage (subtree_at state place) < 2 ^ 60 }
+{}
+
+/// The node at a place has the shape of nodes, and its parts fit their fields.
+pub fn nodes_fit_records()
+    ensures { (state : State) → IsState state → (place : List ℕ) → IfSome (node_of (subtree_at state place)) (λ node. IsShaped node × FitsRecord node) }
 {}
 
 /// Where no text of a state has the zero digest, that is the root of the empty state alone.
