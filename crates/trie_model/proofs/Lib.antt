@@ -12,3 +12,4 @@ pub mod Pairs
 pub mod Growth
 pub mod Bounds
 pub mod Shapes
+pub mod Distinct

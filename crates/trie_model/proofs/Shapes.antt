@@ -83,7 +83,7 @@ HasShortValue row = length row.1 ≤ longest_value
 abbrev pub ShortValues : List Row → Type 0
 ShortValues rows = AllByRecursion HasShortValue rows
 
-short-below : (front : List ℕ) (rows : List Row) → ShortValues rows → ShortValues (below front rows)
+pub short-below : (front : List ℕ) (rows : List Row) → ShortValues rows → ShortValues (below front rows)
 short-below front rows h = all-below HasShortValue HasShortValue front (λ row rest e k. k) rows h
 
 ends_here-short : (rows : List Row) → ShortValues rows → IfSome (ends_here rows) (λ value. length value ≤ longest_value)
@@ -201,7 +201,7 @@ short_pairs : (pairs : List Pair) → AllByRecursion IsPair pairs → ShortValue
 short_pairs [] h = tt
 short_pairs (pair ∷ pairs) h = (h.0.value_length, short_pairs pairs h.1)
 
-short-rows_of : (state : State) → IsState state → ShortValues (rows_of state)
+pub short-rows_of : (state : State) → IsState state → ShortValues (rows_of state)
 unfolding rows_of
 short-rows_of state is = short_pairs (entries state) is.pairs
 
