@@ -1,5 +1,5 @@
 -- A usage is small: each value is paid once, and each row pays at most one node at each step down its path.
-use Rattle.std.proofs.Common.{◌≡◌, ℕ, zero, suc, ◌+◌, ◌-◌, ◌*◌, ◌/◌, ◌^◌, ◌<◌, ◌≤◌, ◌==◌, max, Bool, true, false, if◌then◌else◌, List, [], ◌∷◌, ◌++◌, length, Option, None, Some, option_map, refl, sym, ◌∙◌, ap, subst, inl, inr, arith, le_trans, le_refl, mul-add, mul-le-mul_left, mul-le-mul_right, mul-le-mul, length-append}
+use Rattle.std.proofs.Common.{◌≡◌, ℕ, zero, suc, ◌+◌, ◌-◌, ◌*◌, ◌^◌, ◌<◌, ◌≤◌, ◌==◌, max, Bool, true, false, if◌then◌else◌, List, [], ◌∷◌, length, Option, None, Some, option_map, refl, ◌∙◌, ap, subst, inl, inr, arith, mul-add, mul-le-mul_left, mul-le-mul_right, mul-le-mul, length-append}
 use Rattle.std.specs.List.{AllByRecursion, cons_option}
 use Rattle.std.proofs.lemmas.Bool.{cases_eq}
 use Rattle.std.proofs.lemmas.Bool.Decides.{nat_tests}
@@ -9,7 +9,7 @@ use Rattle.byte_model.specs.PackedPath.{packed}
 use Rattle.byte_model.specs.Node.{cost_of}
 use Rattle.byte_model.proofs.Paths.{length-packed}
 use Rattle.trie_model.specs.State.{State, Row, rows_of, IsState, IsPair}
-use Rattle.trie_model.specs.Tree.{Tree, nothing, leaf, branch, extension, rest_behind, below, ends_here, common_front, longest, tree_of}
+use Rattle.trie_model.specs.Tree.{branch, rest_behind, below, ends_here, common_front, longest, tree_of}
 use Rattle.std.specs.FinMap.{entries}
 use Rattle.std.proofs.lemmas.List.{length-map}
 use Rattle.byte_model.proofs.Digits.{length-nibbles}
@@ -17,7 +17,7 @@ use Rattle.trie_model.specs.Root.{subtree_at}
 use Rattle.trie_model.proofs.Worked.{Pair, rows_of_pairs}
 use Rattle.trie_model.specs.Texts.{top_cost, usage}
 use Rattle.trie_model.proofs.Rests.{HasFront, AllHaveFront, common_front-all}
-use Rattle.trie_model.proofs.Trees.{needed, needed-below, needed-longest, length-rest_behind, tree_of-nil, tree_of-one, tree_of-forks, tree_of-shares, ByCases, by_cases}
+use Rattle.trie_model.proofs.Trees.{needed, needed-below, needed-longest, length-rest_behind, tree_of-nil, tree_of-one, tree_of-forks, tree_of-shares, by_cases}
 
 -- ---- sums over nibbles
 

@@ -1,22 +1,22 @@
 -- Equal texts mean equal rows, where no two of the texts at hand share a digest.
-use Rattle.std.proofs.Common.{◌≡◌, ◌≢◌, ℕ, ◌<◌, List, [], ◌∷◌, ◌++◌, map, length, Option, None, Some, IfSome, option_map, Contains, ◌⊎◌, refl, sym, ◌∙◌, ap, ap₂, subst, inl, inr}
+use Rattle.std.proofs.Common.{◌≡◌, ◌≢◌, ℕ, ◌<◌, List, [], ◌∷◌, ◌++◌, map, Option, None, Some, IfSome, option_map, ◌⊎◌, ◌↔◌, refl, sym, ◌∙◌, ap, ap₂, subst, inl, inr}
 use Rattle.std.specs.List.{AllByRecursion}
 use Rattle.sha2.specs.Sha256.{sha256}
-use Rattle.byte_model.specs.Below.{joined_below}
 use Rattle.byte_model.specs.Node as node
 use Rattle.byte_model.specs.Node.{Node, ValueRef, spelled, IsShaped}
 use Rattle.byte_model.specs.Laws.{FitsRecord, SameNode}
 use Rattle.byte_model.proofs.Spellings.{spelled-same_node}
 use Rattle.trie_model.specs.State.{State, Row, IsState, rows_of}
-use Rattle.trie_model.specs.Tree.{Tree, nothing, leaf, branch, extension, below, ends_here, common_front, tree_of}
+use Rattle.trie_model.specs.Tree.{Tree, leaf, branch, extension, below, ends_here, common_front, tree_of}
 use Rattle.trie_model.specs.Texts.{text, usage, name_of, node_of, value_ref}
-use Rattle.trie_model.specs.Root.{root, texts_of, text_at, zero_digest, NoClash, subtree_at}
-use Rattle.trie_model.proofs.Members.{IsIn, in-joined_below, contains_of_in, in-append_left, in-append_right}
+use Rattle.trie_model.specs.Root.{root, root_of, texts_of, text_at, zero_digest, NoClash}
+use Rattle.trie_model.proofs.Members.{IsIn, all_of, in-map, in-joined_below, contains_of_in, in_of_contains, in-append_left, in-append_right}
+use Rattle.trie_model.proofs.Roots.{rows_of-same, root_text_occurs, root-some}
 use Rattle.trie_model.proofs.Joined.{joined_below-agree}
 use Rattle.trie_model.proofs.Rests.{under, under-below, AllHaveFront, common_front-all}
-use Rattle.trie_model.proofs.Trees.{tree_of-nil, tree_of-one, tree_of-forks, tree_of-shares, ByCases, by_cases}
+use Rattle.trie_model.proofs.Trees.{tree_of-nil, tree_of-one, tree_of-forks, tree_of-shares, by_cases}
 use Rattle.trie_model.proofs.Places.{gathered, tree_texts}
-use Rattle.trie_model.proofs.Costs.{text-node_of}
+use Rattle.trie_model.proofs.Costs.{text-node_of, subtree_at-root, texts_of-tree_texts}
 use Rattle.trie_model.proofs.Order.{RisingRows, rising-below, rising-rows_of, all-below}
 use Rattle.trie_model.proofs.Pairs.{Small, small-below, small-rows_of, here, by_nibble, rows_by_nibble}
 use Rattle.trie_model.proofs.Shapes.{ShortValues, short-below, short-rows_of, sound_nodes}
@@ -29,10 +29,10 @@ pub record Sound (rows : List Row) : Type 0 where
 
 sound-below : (front : List ℕ) (rows : List Row) → Sound rows → Sound (below front rows)
 sound-below front rows s = record {
-    rising = rising-below front rows s.rising;
-    small = small-below front rows s.small;
-    short = short-below front rows s.short
-  }
+  rising = rising-below front rows s.rising;
+  small = small-below front rows s.small;
+  short = short-below front rows s.short;
+}
 
 -- ---- names and texts of some rows
 
@@ -46,11 +46,11 @@ is_empty_or_not (row ∷ rows) = inr (cons_some row rows)
 name_of-rows : (rows : List Row) → rows ≢ [] → (t : List ℕ) → name_of (tree_of rows) t ≡ Some (sha256 t)
 unfolding name_of
 name_of-rows = by_cases (λ rows. rows ≢ [] → (t : List ℕ) → name_of (tree_of rows) t ≡ Some (sha256 t)) (record {
-      none = λ some t. absurd (some refl);
-      one = λ row some t. subst (λ tree. name_of tree t ≡ Some (sha256 t)) (sym (tree_of-one row)) refl;
-      forks = λ row next rows e further some t. subst (λ tree. name_of tree t ≡ Some (sha256 t)) (sym (tree_of-forks row next rows e)) refl;
-      shares = λ row next rows x front e further some t. subst (λ tree. name_of tree t ≡ Some (sha256 t)) (sym (tree_of-shares row next rows x front e)) refl
-    })
+  none = λ some t. absurd (some refl);
+  one = λ row some t. subst (λ tree. name_of tree t ≡ Some (sha256 t)) (sym (tree_of-one row)) refl;
+  forks = λ row next rows e further some t. subst (λ tree. name_of tree t ≡ Some (sha256 t)) (sym (tree_of-forks row next rows e)) refl;
+  shares = λ row next rows x front e further some t. subst (λ tree. name_of tree t ≡ Some (sha256 t)) (sym (tree_of-shares row next rows x front e)) refl;
+})
 
 name_of-none : (t : List ℕ) → name_of (tree_of []) t ≡ None
 unfolding name_of
@@ -59,11 +59,11 @@ name_of-none t = ap (λ tree. name_of tree t) tree_of-nil
 text_in : (rows : List Row) → rows ≢ [] → IsIn (tree_texts (tree_of rows)) (text (tree_of rows))
 unfolding gathered
 text_in = by_cases (λ rows. rows ≢ [] → IsIn (tree_texts (tree_of rows)) (text (tree_of rows))) (record {
-      none = λ some. absurd (some refl);
-      one = λ row some. subst (λ tree. IsIn (tree_texts tree) (text tree)) (sym (tree_of-one row)) (inl refl);
-      forks = λ row next rows e further some. subst (λ tree. IsIn (tree_texts tree) (text tree)) (sym (tree_of-forks row next rows e)) (inl refl);
-      shares = λ row next rows x front e further some. subst (λ tree. IsIn (tree_texts tree) (text tree)) (sym (tree_of-shares row next rows x front e)) (inl refl)
-    })
+  none = λ some. absurd (some refl);
+  one = λ row some. subst (λ tree. IsIn (tree_texts tree) (text tree)) (sym (tree_of-one row)) (inl refl);
+  forks = λ row next rows e further some. subst (λ tree. IsIn (tree_texts tree) (text tree)) (sym (tree_of-forks row next rows e)) (inl refl);
+  shares = λ row next rows x front e further some. subst (λ tree. IsIn (tree_texts tree) (text tree)) (sym (tree_of-shares row next rows x front e)) (inl refl);
+})
 
 -- ---- the kinds of nodes that rows can have
 
@@ -133,16 +133,16 @@ module _ (texts : List (List ℕ)) (apart : (a b : List ℕ) → IsIn texts a �
   known_branch : (rows : List Row) → tree_of rows ≡ branch (ends_here rows) (λ x. tree_of (below (x ∷ []) rows)) → Known rows → (x : ℕ) → x < 16 → Known (below (x ∷ []) rows)
   unfolding gathered
   known_branch rows e known x small = record {
-      nodes = λ t h. known.nodes t (subst (λ tree. IsIn (tree_texts tree) t) (sym e) (inr (in-joined_below (λ i. tree_texts (tree_of (below (i ∷ []) rows))) 16 x t small h)));
-      values = all-below (λ row. IsIn texts row.1) (λ row. IsIn texts row.1) (x ∷ []) (λ row rest e' h. h) rows known.values
-    }
+    nodes = λ t h. known.nodes t (subst (λ tree. IsIn (tree_texts tree) t) (sym e) (inr (in-joined_below (λ i. tree_texts (tree_of (below (i ∷ []) rows))) 16 x t small h)));
+    values = all-below (λ row. IsIn texts row.1) (λ row. IsIn texts row.1) (x ∷ []) (λ row rest e' h. h) rows known.values;
+  }
 
   known_extension : (rows : List Row) (front : List ℕ) → tree_of rows ≡ extension front (tree_of (below front rows)) → Known rows → Known (below front rows)
   unfolding gathered
   known_extension rows front e known = record {
-      nodes = λ t h. known.nodes t (subst (λ tree. IsIn (tree_texts tree) t) (sym e) (inr h));
-      values = all-below (λ row. IsIn texts row.1) (λ row. IsIn texts row.1) front (λ row rest e' h. h) rows known.values
-    }
+    nodes = λ t h. known.nodes t (subst (λ tree. IsIn (tree_texts tree) t) (sym e) (inr h));
+    values = all-below (λ row. IsIn texts row.1) (λ row. IsIn texts row.1) front (λ row rest e' h. h) rows known.values;
+  }
 
   abbrev Told : List Row → Type 0
   Told rs = (ss : List Row) → Sound rs → Sound ss → Known rs → Known ss → rs ≢ [] → ss ≢ [] → text (tree_of rs) ≡ text (tree_of ss) → rs ≡ ss
@@ -223,8 +223,58 @@ module _ (texts : List (List ℕ)) (apart : (a b : List ℕ) → IsIn texts a �
   -- Rows with the same text are the same.
   pub rows_of_text : (rs ss : List Row) → Sound rs → Sound ss → Known rs → Known ss → rs ≢ [] → ss ≢ [] → text (tree_of rs) ≡ text (tree_of ss) → rs ≡ ss
   rows_of_text = by_cases Told (record {
-        none = λ ss s s' k k' some some' e. absurd (some refl);
-        one = told_one;
-        forks = λ row next rows e further. told_forks (row ∷ next ∷ rows) (tree_of-forks row next rows e) further;
-        shares = λ row next rows x front e further. told_shares (row ∷ next ∷ rows) (x ∷ front) (subst (λ (f : List ℕ). AllHaveFront f (row ∷ next ∷ rows)) e (common_front-all row (next ∷ rows))) (tree_of-shares row next rows x front e) further
-      })
+    none = λ ss s s' k k' some some' e. absurd (some refl);
+    one = told_one;
+    forks = λ row next rows e further. told_forks (row ∷ next ∷ rows) (tree_of-forks row next rows e) further;
+    shares = λ row next rows x front e further. told_shares (row ∷ next ∷ rows) (x ∷ front) (subst (λ (f : List ℕ). AllHaveFront f (row ∷ next ∷ rows)) e (common_front-all row (next ∷ rows))) (tree_of-shares row next rows x front e) further;
+  })
+
+-- ---- of two states
+
+sound-rows_of : (state : State) → IsState state → Sound (rows_of state)
+sound-rows_of state is = record {
+  rising = rising-rows_of state;
+  small = small-rows_of state is;
+  short = short-rows_of state is;
+}
+
+-- the texts of a state are among some more
+known-rows_of : (texts : List (List ℕ)) (apart : (a b : List ℕ) → IsIn texts a → IsIn texts b → sha256 a ≡ sha256 b → a ≡ b) (state : State) → ((t : List ℕ) → IsIn (texts_of state) t → IsIn texts t) → Known texts apart (rows_of state)
+known-rows_of texts apart state more =
+    let rows = rows_of state in
+    let values : List (List ℕ) = map (λ (row : Row). row.1) rows in
+    let all : (t : List ℕ) → IsIn (tree_texts (tree_of rows) ++ values) t → IsIn texts t = λ t h. more t (subst (λ (ts : List (List ℕ)). IsIn ts t) (sym (texts_of-tree_texts state)) h) in
+    record {
+      nodes = λ t h. all t (in-append_left (tree_texts (tree_of rows)) values t h);
+      values = all_of (λ row. IsIn texts row.1) rows (λ row h. all row.1 (in-append_right (tree_texts (tree_of rows)) values row.1 (in-map (λ (r : Row). r.1) rows row h)));
+    }
+
+root-none : (state : State) → rows_of state ≡ [] → root state ≡ zero_digest
+unfolding root_of
+root-none state e = ap root_of (subtree_at-root state ∙ ap tree_of e ∙ tree_of-nil)
+
+pub state_of_root : (m n : State) → IsState m → IsState n → NoClash (texts_of m ++ texts_of n) → root m ≡ root n → m ≡ n
+state_of_root m n is is' clear e = rows_of-same m n (go (is_empty_or_not (rows_of m)) (is_empty_or_not (rows_of n)))
+  where
+    texts : List (List ℕ)
+    texts = texts_of m ++ texts_of n
+
+    apart : (a b : List ℕ) → IsIn (texts_of m ++ texts_of n) a → IsIn (texts_of m ++ texts_of n) b → sha256 a ≡ sha256 b → a ≡ b
+    apart a b h k = clear.apart a b (contains_of_in _ a h) (contains_of_in _ b k)
+
+    first : (t : List ℕ) → IsIn (texts_of m) t → IsIn (texts_of m ++ texts_of n) t
+    first t h = in-append_left (texts_of m) (texts_of n) t h
+
+    second : (t : List ℕ) → IsIn (texts_of n) t → IsIn (texts_of m ++ texts_of n) t
+    second t h = in-append_right (texts_of m) (texts_of n) t h
+
+    go : (rows_of m ≡ []) ⊎ (rows_of m ≢ []) → (rows_of n ≡ []) ⊎ (rows_of n ≢ []) → rows_of m ≡ rows_of n
+    go (inl p) (inl q) = p ∙ sym q
+    go (inl p) (inr q) = absurd (clear.nonzero _ (contains_of_in _ _ (second _ (in_of_contains _ _ (root_text_occurs n q)))) (sym (root-some n q) ∙ sym e ∙ root-none m p))
+    go (inr p) (inl q) = absurd (clear.nonzero _ (contains_of_in _ _ (first _ (in_of_contains _ _ (root_text_occurs m p)))) (sym (root-some m p) ∙ e ∙ root-none n q))
+    go (inr p) (inr q) =
+        let same : text_at m [] ≡ text_at n [] = apart _ _ (first _ (in_of_contains _ _ (root_text_occurs m p))) (second _ (in_of_contains _ _ (root_text_occurs n q))) (sym (root-some m p) ∙ e ∙ root-some n q) in
+        rows_of_text (texts_of m ++ texts_of n) apart (rows_of m) (rows_of n) (sound-rows_of m is) (sound-rows_of n is') (known-rows_of _ apart m first) (known-rows_of _ apart n second) p q (sym (ap text (subtree_at-root m)) ∙ same ∙ ap text (subtree_at-root n))
+
+pub root-same : (m n : State) → IsState m → IsState n → NoClash (texts_of m ++ texts_of n) → (root m ≡ root n) ↔ (m ≡ n)
+root-same m n is is' clear = (state_of_root m n is is' clear, λ e. ap root e)

@@ -1,6 +1,6 @@
 -- Rows that share a front, and rows that fork: what their tries are, made from those of their parts.
-use Rattle.std.proofs.Common.{◌≡◌, ◌≢◌, ℕ, zero, suc, ◌<◌, ◌≤◌, ◌==◌, Bool, true, false, if◌then◌else◌, List, [], ◌∷◌, ◌++◌, map, Option, None, Some, option_map, refl, sym, ◌∙◌, ap, ap₂, subst, inl, inr, ◌⊎◌, arith, append-nil, nat_cmp, Ordering, Less, Equal, Greater}
-use Rattle.std.specs.List.{AllByRecursion, cons_option}
+use Rattle.std.proofs.Common.{◌≡◌, ◌≢◌, ℕ, zero, suc, ◌<◌, ◌≤◌, ◌==◌, true, false, if◌then◌else◌, List, [], ◌∷◌, ◌++◌, Option, None, Some, refl, sym, ◌∙◌, ap, ap₂, subst, inl, inr, ◌⊎◌, arith, append-nil, nat_cmp, Less, Equal, Greater}
+use Rattle.std.specs.List.{AllByRecursion}
 use Rattle.std.specs.Ordering.{ordering_then}
 use Rattle.std.specs.Cmp.Lexicographic.{slice_cmp}
 use Rattle.std.proofs.lemmas.Bool.{cases_lt, cases_eq}
@@ -10,7 +10,7 @@ use Rattle.byte_model.specs.Below.{joined_below}
 use Rattle.byte_model.proofs.Digits.{nat_cmp-greater, nat_cmp-itself}
 use Rattle.trie_model.specs.State.{Row}
 use Rattle.trie_model.specs.Tree.{Tree, nothing, leaf, branch, extension, rest_behind, below, ends_here, common, common_front, tree_of}
-use Rattle.trie_model.proofs.Rests.{same_nibble, equal_of_test, under, below-nil, below-append, below-under, below-rows_append, under-below, AllHaveFront}
+use Rattle.trie_model.proofs.Rests.{same_nibble, under, below-append, below-under, below-rows_append, under-below, AllHaveFront}
 use Rattle.trie_model.proofs.Trees.{tree_of-nil, tree_of-one, tree_of-forks, tree_of-shares}
 use Rattle.trie_model.proofs.Order.{Before, RisingRows}
 use Rattle.trie_model.proofs.Pairs.{here}

@@ -1,11 +1,10 @@
 -- The nodes of a state's trie fit their records and have the shape that nodes have.
-use Rattle.std.proofs.Common.{◌≡◌, ◌≢◌, ℕ, zero, suc, ◌+◌, ◌^◌, ◌<◌, ◌≤◌, ◌==◌, Bool, true, false, if◌then◌else◌, List, [], ◌∷◌, ◌++◌, length, Option, None, Some, IfSome, is_some, option_map, refl, sym, ◌∙◌, ap, ap₂, subst, inl, inr, ◌⊎◌, arith}
+use Rattle.std.proofs.Common.{◌≡◌, ◌≢◌, ℕ, zero, suc, ◌+◌, ◌<◌, ◌≤◌, ◌==◌, Bool, true, if◌then◌else◌, List, [], ◌∷◌, ◌++◌, length, Option, None, Some, IfSome, is_some, option_map, refl, sym, ◌∙◌, ap, subst, inl, inr, arith}
 use Rattle.std.specs.List.{AllByRecursion, cons_option}
 use Rattle.trie_model.proofs.Members.{IsIn, all_at}
-use Rattle.std.proofs.lemmas.Bool.{cases_lt, cases_eq}
+use Rattle.std.proofs.lemmas.Bool.{cases_lt}
 use Rattle.std.proofs.lemmas.Bool.Decides.{nat_tests}
 use Rattle.std.specs.FinMap.{entries}
-use Rattle.sha2.specs.Sha256.{sha256}
 use Rattle.sha2.proofs.Facts256.{length-sha256}
 use Rattle.byte_model.specs.Below.{sum_below}
 use Rattle.byte_model.specs.Nibbles.{AreNibbles}
@@ -17,8 +16,8 @@ use Rattle.trie_model.specs.Tree.{Tree, nothing, leaf, branch, extension, rest_b
 use Rattle.trie_model.specs.Texts.{text, name_of, node_of, value_ref}
 use Rattle.trie_model.specs.Root.{subtree_at}
 use Rattle.trie_model.proofs.Worked.{Pair, rows_of_pairs}
-use Rattle.trie_model.proofs.Rests.{AllHaveFront, common_front-all, below-some, rest_behind-front}
-use Rattle.trie_model.proofs.Trees.{tree_of-nil, tree_of-one, tree_of-forks, tree_of-shares, ByCases, by_cases}
+use Rattle.trie_model.proofs.Rests.{AllHaveFront, common_front-all, below-some}
+use Rattle.trie_model.proofs.Trees.{tree_of-nil, tree_of-one, tree_of-forks, tree_of-shares, by_cases}
 use Rattle.trie_model.proofs.Order.{Before, RisingRows, rising-below, rising-rows_of, all-below}
 use Rattle.trie_model.proofs.Pairs.{from_before, from_empty, Small, small-below, small-rows_of}
 use Rattle.trie_model.proofs.Growth.{last_row, common_front-rising}

@@ -80,3 +80,8 @@ pub fn pairs_stand_at_one_place()
 pub fn rows_tell_states_apart()
     ensures { (m n : State) → rows_of m ≡ rows_of n → m ≡ n }
 {}
+
+/// Where different texts of two states have different digests, and none the zero digest, their roots are the same exactly where the states are.
+pub fn roots_tell_states_apart()
+    ensures { (m n : State) → IsState m → IsState n → NoClash (texts_of m ++ texts_of n) → (root m ≡ root n) ↔ (m ≡ n) }
+{}
