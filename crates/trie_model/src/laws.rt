@@ -1,6 +1,6 @@
 //! Laws over the definitions, in other words than theirs. A law is proved where its function is: there is nothing to run.
 
-ghost use Rattle.std.specs.Prelude.{◌≡◌, ◌≢◌, ◌+◌, ◌^◌, ◌<◌, ◌↔◌, ℕ, List, [], ◌∷◌, ◌++◌, length, sum_by, filter_map, Contains, IfSome, IsNone};
+ghost use Rattle.std.specs.Prelude.{◌≡◌, ◌≢◌, ◌+◌, ◌^◌, ◌<◌, ◌↔◌, ℕ, List, [], ◌∷◌, ◌++◌, sum_by, filter_map, Contains, IfSome};
 ghost use Rattle.std.specs.Ordering.{nat_cmp};
 ghost use Rattle.std.specs.List.Sorted.{IsStrictlySortedBy};
 ghost use Rattle.std.specs.Cmp.Lexicographic.{slice_cmp};
@@ -9,7 +9,7 @@ ghost use Rattle.sha2.specs.Sha256.{sha256};
 ghost use Rattle.byte_model.specs.Node.{IsShaped, own_cost, spelled};
 ghost use Rattle.byte_model.specs.Laws.{FitsRecord};
 ghost use Rattle.trie_model.specs.State.{State, Row, IsState, rows_of};
-ghost use Rattle.trie_model.specs.Tree.{below, longest, nothing, tree_by, tree_of, tree_within};
+ghost use Rattle.trie_model.specs.Tree.{below, longest, tree_by, tree_of, tree_within};
 ghost use Rattle.trie_model.specs.Texts.{node_of, top_cost, usage};
 ghost use Rattle.trie_model.specs.Root.{NoClash, Holds, Table, places_of, root, subtree_at, text_at, texts_of, total, zero_digest};
 ghost use Rattle.trie_model.specs.Laws.{ChildrenArePlaces, NamesChildren, children_usage, held_at};
