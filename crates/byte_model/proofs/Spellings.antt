@@ -134,10 +134,8 @@ ordinal_same : (m n : Node) (u v : ℕ) → spelled m u ≡ spelled n v → ordi
 ordinal_same m n u v e = first_same (sym (without_ordinal m u).1 ∙ e ∙ (without_ordinal n v).1)
 
 -- the usage stands at the end
-usage_apart : (xs ys : List ℕ) (u v : ℕ) → xs ++ borsh_u64 u ≡ ys ++ borsh_u64 v → u < 2 ^ 64 → v < 2 ^ 64 → (xs ≡ ys) × (u ≡ v)
-usage_apart xs ys u v e h k =
-    let parts = split_end xs ys (borsh_u64 u) (borsh_u64 v) (length-borsh_u64 u ∙ sym (length-borsh_u64 v)) e in
-    (parts.0, borsh_u64-same u v h k parts.1)
+usage_apart : (xs ys : List ℕ) (u v : ℕ) → xs ++ borsh_u64 u ≡ ys ++ borsh_u64 v → (xs ≡ ys) × (borsh_u64 u ≡ borsh_u64 v)
+usage_apart xs ys u v e = split_end xs ys (borsh_u64 u) (borsh_u64 v) (length-borsh_u64 u ∙ sym (length-borsh_u64 v)) e
 
 leaf_same : (p q : List ℕ) (v w : ValueRef) → AreNibbles p → AreNibbles q → NamesValue v → NamesValue w → (0 ∷ borsh_bytes (packed true p)) ++ spelled_value v ≡ (0 ∷ borsh_bytes (packed true q)) ++ spelled_value w → (p ≡ q) × (v ≡ w)
 leaf_same p q v w h k small small' e =
@@ -157,33 +155,39 @@ branch_same v w f g small small' e =
     (spelled_value-same v w small small' (rest_same parts.0), parts.1)
 
 -- nodes of one kind
-same_kind : (m n : Node) (u v : ℕ) → ordinal m ≡ ordinal n → FitsRecord m → FitsRecord n → u < 2 ^ 64 → v < 2 ^ 64 → spelled m u ≡ spelled n v → SameNode m n × (u ≡ v)
+same_kind : (m n : Node) (u v : ℕ) → ordinal m ≡ ordinal n → FitsRecord m → FitsRecord n → spelled m u ≡ spelled n v → SameNode m n × (borsh_u64 u ≡ borsh_u64 v)
 unfolding spelled
-same_kind (leaf p v) (leaf q w) a b o h k s t e =
-    let parts = usage_apart ((0 ∷ borsh_bytes (packed true p)) ++ spelled_value v) ((0 ∷ borsh_bytes (packed true q)) ++ spelled_value w) a b e s t in
+same_kind (leaf p v) (leaf q w) a b o h k e =
+    let parts = usage_apart ((0 ∷ borsh_bytes (packed true p)) ++ spelled_value v) ((0 ∷ borsh_bytes (packed true q)) ++ spelled_value w) a b e in
     (leaf_same p q v w h.0 k.0 h.1 k.1 parts.0, parts.1)
-same_kind (branch None f) (branch None g) a b o h k s t e =
-    let parts = usage_apart (1 ∷ spelled_kids f) (1 ∷ spelled_kids g) a b e s t in
+same_kind (branch None f) (branch None g) a b o h k e =
+    let parts = usage_apart (1 ∷ spelled_kids f) (1 ∷ spelled_kids g) a b e in
     ((refl, spelled_kids-same f g h.1 k.1 (rest_same parts.0)), parts.1)
-same_kind (branch (Some v) f) (branch (Some w) g) a b o h k s t e =
-    let parts = usage_apart ((2 ∷ spelled_value v) ++ spelled_kids f) ((2 ∷ spelled_value w) ++ spelled_kids g) a b e s t in
+same_kind (branch (Some v) f) (branch (Some w) g) a b o h k e =
+    let parts = usage_apart ((2 ∷ spelled_value v) ++ spelled_kids f) ((2 ∷ spelled_value w) ++ spelled_kids g) a b e in
     let node = branch_same v w f g h.0 k.0 parts.0 in
     ((ap (λ (r : ValueRef). Some r) node.0, spelled_kids-same f g h.1 k.1 node.1), parts.1)
-same_kind (extension p child) (extension q other) a b o h k s t e =
-    let parts = usage_apart ((3 ∷ borsh_bytes (packed false p)) ++ child) ((3 ∷ borsh_bytes (packed false q)) ++ other) a b e s t in
+same_kind (extension p child) (extension q other) a b o h k e =
+    let parts = usage_apart ((3 ∷ borsh_bytes (packed false p)) ++ child) ((3 ∷ borsh_bytes (packed false q)) ++ other) a b e in
     (extension_same p q child other h.0 k.0 h.1 k.1 parts.0, parts.1)
-same_kind (leaf p v) (branch None g) a b o h k s t e = absurd (omega arith)
-same_kind (leaf p v) (branch (Some w) g) a b o h k s t e = absurd (omega arith)
-same_kind (leaf p v) (extension q child) a b o h k s t e = absurd (omega arith)
-same_kind (branch None f) (leaf q w) a b o h k s t e = absurd (omega arith)
-same_kind (branch None f) (branch (Some w) g) a b o h k s t e = absurd (omega arith)
-same_kind (branch None f) (extension q child) a b o h k s t e = absurd (omega arith)
-same_kind (branch (Some v) f) (leaf q w) a b o h k s t e = absurd (omega arith)
-same_kind (branch (Some v) f) (branch None g) a b o h k s t e = absurd (omega arith)
-same_kind (branch (Some v) f) (extension q child) a b o h k s t e = absurd (omega arith)
-same_kind (extension p child) (leaf q w) a b o h k s t e = absurd (omega arith)
-same_kind (extension p child) (branch None g) a b o h k s t e = absurd (omega arith)
-same_kind (extension p child) (branch (Some w) g) a b o h k s t e = absurd (omega arith)
+same_kind (leaf p v) (branch None g) a b o h k e = absurd (omega arith)
+same_kind (leaf p v) (branch (Some w) g) a b o h k e = absurd (omega arith)
+same_kind (leaf p v) (extension q child) a b o h k e = absurd (omega arith)
+same_kind (branch None f) (leaf q w) a b o h k e = absurd (omega arith)
+same_kind (branch None f) (branch (Some w) g) a b o h k e = absurd (omega arith)
+same_kind (branch None f) (extension q child) a b o h k e = absurd (omega arith)
+same_kind (branch (Some v) f) (leaf q w) a b o h k e = absurd (omega arith)
+same_kind (branch (Some v) f) (branch None g) a b o h k e = absurd (omega arith)
+same_kind (branch (Some v) f) (extension q child) a b o h k e = absurd (omega arith)
+same_kind (extension p child) (leaf q w) a b o h k e = absurd (omega arith)
+same_kind (extension p child) (branch None g) a b o h k e = absurd (omega arith)
+same_kind (extension p child) (branch (Some w) g) a b o h k e = absurd (omega arith)
+
+-- whatever the usages are
+pub spelled-same_node : (m n : Node) (u v : ℕ) → FitsRecord m → FitsRecord n → spelled m u ≡ spelled n v → SameNode m n
+spelled-same_node m n u v h k e = (same_kind m n u v (ordinal_same m n u v e) h k e).0
 
 pub spelled-same : (m n : Node) (u v : ℕ) → FitsRecord m → FitsRecord n → u < 2 ^ 64 → v < 2 ^ 64 → spelled m u ≡ spelled n v → SameNode m n × (u ≡ v)
-spelled-same m n u v h k s t e = same_kind m n u v (ordinal_same m n u v e) h k s t e
+spelled-same m n u v h k s t e =
+    let parts = same_kind m n u v (ordinal_same m n u v e) h k e in
+    (parts.0, borsh_u64-same u v s t parts.1)

@@ -9,3 +9,7 @@ pub mod Roots
 pub mod Children
 pub mod Order
 pub mod Pairs
+pub mod Growth
+pub mod Bounds
+pub mod Shapes
+pub mod Distinct

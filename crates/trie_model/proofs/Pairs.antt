@@ -140,7 +140,7 @@ below-from x least (row ∷ rows) lower h =
 not_before : Less ≡ Greater → ⊥
 not_before e = cc
 
-from_before : (x : ℕ) (path later : List ℕ) → Before (x ∷ path) later → (first : ℕ) × (rest : List ℕ) × (later ≡ first ∷ rest) × (x ≤ first)
+pub from_before : (x : ℕ) (path later : List ℕ) → Before (x ∷ path) later → (first : ℕ) × (rest : List ℕ) × (later ≡ first ∷ rest) × (x ≤ first)
 from_before x path [] h = cc
 from_before x path (y ∷ later) h = (y, later, refl, not_lower (cases_lt y x))
   where
@@ -148,7 +148,7 @@ from_before x path (y ∷ later) h = (y, later, refl, not_lower (cases_lt y x))
     not_lower (inl l) = absurd (not_before (sym h ∙ ap (λ o. ordering_then o (slice_cmp nat_cmp path later)) (nat_cmp-greater x y l)))
     not_lower (inr le) = le
 
-from_empty : (later : List ℕ) → Before [] later → (first : ℕ) × (rest : List ℕ) × (later ≡ first ∷ rest) × (0 ≤ first)
+pub from_empty : (later : List ℕ) → Before [] later → (first : ℕ) × (rest : List ℕ) × (later ≡ first ∷ rest) × (0 ≤ first)
 from_empty [] h = cc
 from_empty (y ∷ later) h = (y, later, refl, omega arith)
 
