@@ -1,27 +1,34 @@
--- The command `root`: the root and the memory usage of the state that the input spells.
--- It takes the empty input, and one line `set K V` with its line feed.
-use Rattle.std.specs.Prelude.{ℕ, List, [], ◌∷◌, ◌++◌, codes, Option, None, Some}
+-- The command `root`: the root and the memory usage of the state that a script of `set` lines makes, a later line for a key deciding.
+use Rattle.std.specs.Prelude.{ℕ, ◌+◌, ◌==◌, ◌&&◌, nat_le, not, List, [], ◌∷◌, ◌++◌, length, codes, Option, None, Some, if◌then◌else◌}
 use Rattle.std.specs.Fmt.{decimal}
-use Rattle.std.specs.FinMap.{empty, insert}
+use Rattle.std.specs.FinMap.{empty, insert, contains_key, len}
 use Rattle.hex.specs.Hex.{encode_lower}
-use Rattle.script_model.specs.Lines.{Event, set, event_of, only_line, line_feed}
+use Rattle.script_model.specs.Lines.{Event, nothing, set, pieces, read_at}
 use Rattle.trie_model.specs.State.{State}
 use Rattle.trie_model.specs.Root as trie
-
--- the state of the one pair that a line sets
-abbrev pub state_of_event : Option Event → Option State
-state_of_event None = None
-state_of_event (Some (set key value)) = Some (insert empty key value)
-
-abbrev pub state_of_line : Option (List ℕ) → Option State
-state_of_line None = None
-state_of_line (Some line) = state_of_event (event_of line)
-
--- the state that the input spells, if it spells one
-unfoldable pub state_of : List ℕ → Option State
-state_of [] = Some empty
-state_of (byte ∷ input) = state_of_line (only_line (byte ∷ input))
+use Rattle.output_model.specs.Ends.{Output, done, RunLimits, line_of, syntax_at, full_pairs}
 
 -- `root ROOT USAGE`, the root in 64 lower case digits and the usage in decimal
 unfoldable pub root_line : State → List ℕ
-root_line state = codes "root " ++ encode_lower (trie.root state) ++ codes " " ++ decimal (trie.total state) ++ line_feed ∷ []
+root_line state = line_of (codes "root " ++ encode_lower (trie.root state) ++ codes " " ++ decimal (trie.total state))
+
+abbrev pub root_done : State → Output
+root_done state = record { bytes = root_line state; ending = done }
+
+-- The output, where a line asks for this in a state, and `others` is what comes of the lines behind it.
+abbrev pub after_line : RunLimits → ℕ → Option Event → State → (State → Output) → Output
+after_line limits number None state others = syntax_at number
+after_line limits number (Some nothing) state others = others state
+after_line limits number (Some (set key value)) state others =
+    if nat_le limits.pairs (len state) && not (contains_key state key) then full_pairs else others (insert state key value)
+
+-- The output of the lines from one on: `before` bytes came before it, and it has this number. Each but the last has a line feed, and the last is a line where it has a byte.
+unfoldable pub lines_output : RunLimits → (before number : ℕ) → State → List (List ℕ) → Output
+lines_output limits before number state [] = root_done state
+lines_output limits before number state (line ∷ []) =
+    if length line == 0 then root_done state else after_line limits number (read_at before 0 line) state root_done
+lines_output limits before number state (line ∷ next ∷ lines) =
+    after_line limits number (read_at before 1 line) state (λ after. lines_output limits (before + length line + 1) (number + 1) after (next ∷ lines))
+
+unfoldable pub root_output : RunLimits → List ℕ → Output
+root_output limits input = lines_output limits 0 1 empty (pieces input)

@@ -2,22 +2,21 @@
 use Rattle.std.proofs.Common.{◌≡◌, ℕ, ◌+◌, ◌-◌, ◌≢◌, ◌<◌, ◌≤◌, Bool, true, false, cond, ltb, List, [], ◌∷◌, length, take, drop, Some, None, refl, sym, ap, ◌∙◌, arith}
 use Rattle.std.specs.Prelude.{position}
 use Rattle.std.specs.List.{slice_split, position_or_len}
-use Rattle.std.proofs.lemmas.Bool.{ltb-false, ne_eqb, eq-eqb}
+use Rattle.std.proofs.lemmas.Bool.{ltb-false}
 use Rattle.std.proofs.lemmas.List.{take_rest}
 use Rattle.std.proofs.lemmas.List.Elements.{All-from_get_or}
 use Rattle.std.proofs.lemmas.List.Quantifiers.{position-Some}
 use Rattle.std.proofs.lemmas.List.Splits.{slice_split_none, slice_split_first}
 use Rattle.std.proofs.lemmas.List.Sums.{fails_before_first, position_or_len_is}
-use Rattle.script_model.specs.Lines.{is_line_feed, only_line}
 
 not_found : (b : Bool) (n : ℕ) → cond b (Some n) None ≡ None → b ≡ false
 not_found true n e = absurd cc
 not_found false n e = refl
 
-past_end : (p : ℕ → Bool) (xs : List ℕ) → position p xs ≡ None → length xs ≤ position_or_len p xs
+pub past_end : (p : ℕ → Bool) (xs : List ℕ) → position p xs ≡ None → length xs ≤ position_or_len p xs
 past_end p xs e = ltb-false _ _ (not_found (ltb (position_or_len p xs) (length xs)) (position_or_len p xs) e)
 
-at_place : (p : ℕ → Bool) (xs : List ℕ) (i : ℕ) → position p xs ≡ Some i → (position_or_len p xs ≡ i) × (i < length xs)
+pub at_place : (p : ℕ → Bool) (xs : List ℕ) (i : ℕ) → position p xs ≡ Some i → (position_or_len p xs ≡ i) × (i < length xs)
 at_place p xs i e = let s = position-Some p xs i 0 e in (position_or_len_is p xs i 0 (omega (arith, s.0)) s.2 (λ _. s.1), s.0)
 
 -- a list in which no element passes is one part
@@ -31,22 +30,3 @@ pub slice_split-cut : (p : ℕ → Bool) (xs : List ℕ) (i : ℕ) → position 
 slice_split-cut p xs i e =
     let at = at_place p xs i e in
     slice_split_first p xs 0 (omega (arith, at.0, at.1)) ∙ ap (λ k. take k xs ∷ slice_split p (drop (k + 1) xs)) at.0 ∙ ap (λ (rest : List ℕ). take i xs ∷ slice_split p rest) (sym (take_rest xs (i + 1)))
-
--- the first line feed is the last byte, or another, or there is none
-pub only_line-at_end : (xs : List ℕ) (i : ℕ) → position is_line_feed xs ≡ Some i → i + 1 ≡ length xs → only_line xs ≡ Some (take i xs)
-unfolding only_line
-only_line-at_end xs i e l =
-    let at = at_place is_line_feed xs i e in
-    rw (at.0, eq-eqb (i + 1) (length xs) l) refl
-
-pub only_line-early : (xs : List ℕ) (i : ℕ) → position is_line_feed xs ≡ Some i → i + 1 ≢ length xs → only_line xs ≡ None
-unfolding only_line
-only_line-early xs i e l =
-    let at = at_place is_line_feed xs i e in
-    rw (at.0, ne_eqb (i + 1) (length xs) l) refl
-
-pub only_line-none : (xs : List ℕ) → position is_line_feed xs ≡ None → only_line xs ≡ None
-unfolding only_line
-only_line-none xs e =
-    let past = past_end is_line_feed xs e in
-    rw (ne_eqb (position_or_len is_line_feed xs + 1) (length xs) (λ h. omega arith)) refl

@@ -1,7 +1,7 @@
 -- The event of a line, as its words are cut off one after another.
-use Rattle.std.proofs.Common.{◌≡◌, ℕ, Bool, true, false, cond, eqb, leb, List, [], ◌∷◌, length, Option, Some, None, Result, Ok, Err, refl, sym, ap, ◌∙◌, subst}
-use Rattle.std.specs.Prelude.{codes}
-use Rattle.std.specs.List.{slice_split, join_with_byte}
+use Rattle.std.proofs.Common.{◌≡◌, ◌≢◌, ℕ, Bool, true, false, cond, eqb, leb, List, [], ◌∷◌, length, Option, Some, None, Result, Ok, Err, IfOk, refl, sym, ap, ◌∙◌, subst, arith}
+use Rattle.std.specs.Prelude.{codes, slice_get, if◌then◌else◌}
+use Rattle.std.specs.List.{slice_split, join_with_byte, list_any}
 use Rattle.std.specs.Result.{result_ok}
 use Rattle.std.specs.Str.{bytes_eq}
 use Rattle.std.specs.Cmp.Lexicographic.{bytes_decides}
@@ -11,8 +11,13 @@ use Rattle.std.proofs.lemmas.List.Splits.{slice_split_none, join_with_byte-slice
 use Rattle.hex.specs.Hex.{decode_of, is_hex_digit}
 use Rattle.hex.specs.declared.error.FromHexError.{FromHexError}
 use Rattle.hex.proofs.HexLemmas.{decode_of-ok}
-use Rattle.script_model.specs.Lines.{Event, set, set_pair, event_of, event_of_words, is_space}
+use Rattle.script_model.specs.Lines.{Event, nothing, set, set_pair, event_of, event_of_words, is_space, is_carriage_return}
 use Rattle.script_model.specs.Spellings.{hex_bytes, at_most, key_of, value_of, no_bytes}
+use Rattle.script_io.specs.declared.event.Event.{Event as Asked}
+use Rattle.script_io.specs.declared.event.Event.TheVariants.{Nothing}
+use Rattle.script_io.specs.declared.event.EventError.{EventError}
+use Rattle.script_io.specs.declared.event.EventError.TheVariants.{Bad}
+use Rattle.script_io.specs.Shown.{event}
 
 -- another first word
 other_word : (word : List ℕ) (words : List (List ℕ)) → bytes_eq word (codes "set") ≡ false → event_of_words (word ∷ words) ≡ None
@@ -74,29 +79,57 @@ within most (Some found) bytes e = chosen (leb (length found) most) e
 
 -- ---- the event of a line whose words were cut off so
 
-pub event-no_word : (line : List ℕ) → slice_split is_space line ≡ line ∷ [] → event_of line ≡ None
-unfolding event_of
+-- the event of the words of a line
+abbrev pub words_event : List ℕ → Option Event
+words_event line = event_of_words (slice_split is_space line)
+
+pub event-no_word : (line : List ℕ) → slice_split is_space line ≡ line ∷ [] → words_event line ≡ None
 event-no_word line e = ap event_of_words e
 
-pub event-other_word : (line word rest : List ℕ) → slice_split is_space line ≡ word ∷ slice_split is_space rest → bytes_eq word (codes "set") ≡ false → event_of line ≡ None
-unfolding event_of
+pub event-other_word : (line word rest : List ℕ) → slice_split is_space line ≡ word ∷ slice_split is_space rest → bytes_eq word (codes "set") ≡ false → words_event line ≡ None
 event-other_word line word rest e h = ap event_of_words e ∙ other_word word (slice_split is_space rest) h
 
-pub event-one_word : (line word rest : List ℕ) → slice_split is_space line ≡ word ∷ slice_split is_space rest → slice_split is_space rest ≡ rest ∷ [] → event_of line ≡ None
-unfolding event_of
+pub event-one_word : (line word rest : List ℕ) → slice_split is_space line ≡ word ∷ slice_split is_space rest → slice_split is_space rest ≡ rest ∷ [] → words_event line ≡ None
 event-one_word line word rest e f = ap event_of_words (e ∙ ap (λ (words : List (List ℕ)). word ∷ words) f)
 
-pub event-no_key : (line word rest key value : List ℕ) → slice_split is_space line ≡ word ∷ slice_split is_space rest → slice_split is_space rest ≡ key ∷ slice_split is_space value → key_of key ≡ None → event_of line ≡ None
-unfolding event_of
+pub event-no_key : (line word rest key value : List ℕ) → slice_split is_space line ≡ word ∷ slice_split is_space rest → slice_split is_space rest ≡ key ∷ slice_split is_space value → key_of key ≡ None → words_event line ≡ None
 event-no_key line word rest key value e f h = ap event_of_words (e ∙ ap (λ (words : List (List ℕ)). word ∷ words) f) ∙ no_key word key (slice_split is_space value) h
 
-pub event-no_value : (line word rest key value : List ℕ) → slice_split is_space line ≡ word ∷ slice_split is_space rest → slice_split is_space rest ≡ key ∷ slice_split is_space value → value_of value ≡ None → event_of line ≡ None
-unfolding event_of
+pub event-no_value : (line word rest key value : List ℕ) → slice_split is_space line ≡ word ∷ slice_split is_space rest → slice_split is_space rest ≡ key ∷ slice_split is_space value → value_of value ≡ None → words_event line ≡ None
 event-no_value line word rest key value e f h = ap event_of_words (e ∙ ap (λ (words : List (List ℕ)). word ∷ words) f) ∙ no_value word key value (slice_split is_space value) (join_with_byte-slice_split 32 value) h
 
-pub event-set : (line word rest key value k v : List ℕ) → slice_split is_space line ≡ word ∷ slice_split is_space rest → slice_split is_space rest ≡ key ∷ slice_split is_space value → bytes_eq word (codes "set") ≡ true → key_of key ≡ Some k → value_of value ≡ Some v → event_of line ≡ Some (set k v)
-unfolding event_of value_of
+pub event-set : (line word rest key value k v : List ℕ) → slice_split is_space line ≡ word ∷ slice_split is_space rest → slice_split is_space rest ≡ key ∷ slice_split is_space value → bytes_eq word (codes "set") ≡ true → key_of key ≡ Some k → value_of value ≡ Some v → words_event line ≡ Some (set k v)
+unfolding value_of
 event-set line word rest key value k v e f w hk hv =
     let alone : slice_split is_space value ≡ value ∷ [] = one_word value v (within 4194304 (hex_bytes value) v hv) in
     ap event_of_words (e ∙ ap (λ (words : List (List ℕ)). word ∷ words) (f ∙ ap (λ (words : List (List ℕ)). key ∷ words) alone))
     ∙ ap (λ b. cond b (set_pair (key_of key) (value_of value)) None) w ∙ ap (λ o. set_pair o (value_of value)) hk ∙ ap (set_pair (Some k)) hv
+
+-- ---- a line of a script
+
+pub event-empty : (line : List ℕ) → None ≡ slice_get line 0 → event_of line ≡ Some nothing
+unfolding event_of
+event-empty [] e = refl
+event-empty (byte ∷ line) e = absurd cc
+
+hash_comment : (line : List ℕ) → slice_get line 0 ≡ Some 35 → event_of line ≡ (if list_any is_carriage_return line then None else Some nothing)
+unfolding event_of
+hash_comment [] e = absurd cc
+hash_comment (byte ∷ line) e = let hash : byte ≡ 35 = cc in rw hash refl
+
+pub event-words : (line : List ℕ) (byte : ℕ) → Some byte ≡ slice_get line 0 → byte ≢ 35 → event_of line ≡ words_event line
+unfolding event_of
+event-words [] byte e h = absurd cc
+event-words (first ∷ line) byte e h = let same : first ≡ byte = cc in rw (ne_eqb first 35 (λ hash. h (sym same ∙ hash))) refl
+
+-- what was read of a comment
+pub record IsCommentRead (line : List ℕ) (r : Result Asked EventError) : Type 0 where
+  pub ok : IfOk r (λ found. event_of line ≡ Some (event found))
+  pub bad : r ≡ Err Bad → event_of line ≡ None
+
+by_return : (b : Bool) (line : List ℕ) → event_of line ≡ cond b None (Some nothing) → IsCommentRead line (cond b (Err Bad) (Ok Nothing))
+by_return true line e = record { ok = tt; bad = λ _. e }
+by_return false line e = record { ok = e; bad = λ h. absurd cc }
+
+pub event-comment : (line : List ℕ) (byte : ℕ) (r : Result Asked EventError) → Some byte ≡ slice_get line 0 → byte ≡ 35 → r ≡ (if list_any is_carriage_return line then Err Bad else Ok Nothing) → IsCommentRead line r
+event-comment line byte r e hash is = rw is (by_return (list_any is_carriage_return line) line (hash_comment line (sym e ∙ ap Some hash)))

@@ -1,6 +1,7 @@
 pub mod Putting
-pub mod Taking
 pub mod Cuts
 pub mod Digits
 pub mod HexText
 pub mod Events
+pub mod Faults
+pub mod Finding

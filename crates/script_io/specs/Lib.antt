@@ -2,4 +2,5 @@ pub mod Streams
 pub mod Memory
 pub mod SinkRoom
 pub mod Shown
-pub mod Input
+pub mod Reading
+pub mod Windows

@@ -1,5 +1,6 @@
-ghost use Rattle.std.specs.Prelude.{◌≡◌, Some, None, IfOk, Err};
-ghost use Rattle.script_model.specs.Lines.{event_of};
+ghost use Rattle.std.specs.Prelude.{◌≡◌, Some, None, Ok, Err, IfOk, if◌then◌else◌};
+ghost use Rattle.std.specs.List.{slice_split, list_any};
+ghost use Rattle.script_model.specs.Lines.{event_of, event_of_words, is_space, is_carriage_return};
 ghost use Rattle.script_io.specs.Shown.{event};
 
 use crate::hex_bytes::read_hex;
@@ -11,6 +12,8 @@ use thiserror::Error;
 /// What a line of a script asks for.
 #[derive(Debug, Drop)]
 pub enum Event {
+    /// Nothing: the line is empty or a comment.
+    Nothing,
     /// Sets the value of a key.
     Set { key: Text, value: Text },
 }
@@ -27,10 +30,38 @@ const LONGEST_KEY: usize = 2114;
 
 const LONGEST_VALUE: usize = 4194304;
 
-/// What a line asks for. Its line feed is no part of it.
+/// What a line asks for: nothing where it is empty or begins with `#`, else what its words say. Its
+/// line feed is no part of it, and a carriage return is part of no line.
 pub fn read_event(alloc: Global, line: &[u8]) -> Result<Event, EventError>
     ensures ok { IfOk result (λ found. event_of line.now ≡ Some (event found)) }
     ensures bad { result ≡ Err EventError.Bad → event_of line.now ≡ None }
+{
+    match line.first() {
+        None => Ok(Event::Nothing),
+        Some(first) => {
+            if *first == b'#' {
+                read_comment(line)
+            } else {
+                read_words(alloc, line)
+            }
+        }
+    }
+}
+
+fn read_comment(line: &[u8]) -> Result<Event, EventError>
+    ensures { result ≡ (if list_any is_carriage_return line.now then Err EventError.Bad else Ok Event.Nothing) }
+{
+    if line.contains(&b'\r') {
+        Err(EventError::Bad)
+    } else {
+        Ok(Event::Nothing)
+    }
+}
+
+/// What the words of a line say.
+fn read_words(alloc: Global, line: &[u8]) -> Result<Event, EventError>
+    ensures ok { IfOk result (λ found. event_of_words (slice_split is_space line.now) ≡ Some (event found)) }
+    ensures bad { result ≡ Err EventError.Bad → event_of_words (slice_split is_space line.now) ≡ None }
 {
     let Some((word, rest)) = cut_word(line) else {
         return Err(EventError::Bad);

@@ -1,11 +1,9 @@
 ghost use Rattle.std.specs.Prelude.{◌≡◌, ◌==◌, ◌<◌, ◌∷◌, [], length, position, IfSome, MatchOption};
-ghost use Rattle.std.specs.Option.{option_map};
 ghost use Rattle.std.specs.List.{slice_split};
 ghost use Rattle.script_model.specs.Lines.{is_space};
-ghost use Rattle.script_model.specs.Lines as lines;
 
 /// The first place of a byte.
-fn place_of(bytes: &[u8], byte: u8) -> Option<usize>
+pub(crate) fn place_of(bytes: &[u8], byte: u8) -> Option<usize>
     ensures first { result ≡ position (λ b. b == byte) bytes.now }
     ensures within { IfSome result (λ place. place < length bytes.now) }
 {
@@ -19,22 +17,6 @@ pub(crate) fn cut_word(line: &[u8]) -> Option<(&[u8], &[u8])>
 {
     match place_of(line, b' ') {
         Some(place) => Some((&line[..place], &line[place + 1..])),
-        None => None,
-    }
-}
-
-/// The line, where the input is one line and its line feed.
-pub fn only_line(input: &[u8]) -> Option<&[u8]>
-    ensures { option_map (λ line. line.now) result ≡ lines.only_line input.now }
-{
-    match place_of(input, b'\n') {
-        Some(place) => {
-            if place + 1 == input.len() {
-                Some(&input[..place])
-            } else {
-                None
-            }
-        }
         None => None,
     }
 }

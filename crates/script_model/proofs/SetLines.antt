@@ -3,7 +3,7 @@ use Rattle.std.proofs.Common.{◌≡◌, ℕ, suc, ◌<◌, ◌≤◌, Bool, tru
 use Rattle.std.specs.Prelude.{codes}
 use Rattle.std.specs.Result.{result_ok}
 use Rattle.std.specs.Str.{bytes_eq}
-use Rattle.std.specs.List.{slice_split}
+use Rattle.std.specs.List.{list_any, slice_split}
 use Rattle.std.proofs.lemmas.Bool.{leb-true}
 use Rattle.hex.specs.Hex.{decode_of, IsBytes}
 use Rattle.hex.specs.declared.error.FromHexError.{FromHexError}
@@ -11,7 +11,7 @@ use Rattle.hex.proofs.HexLemmas.{decode_of-ok}
 use Rattle.byte_model.specs.Nibbles.{AreBytes}
 use Rattle.byte_model.specs.Node.{longest_value}
 use Rattle.trie_model.specs.State.{IsPair, longest_key}
-use Rattle.script_model.specs.Lines.{Event, set, set_pair, event_of, event_of_words, is_space}
+use Rattle.script_model.specs.Lines.{Event, nothing, set, set_pair, comment, event_of, event_of_words, is_hash, is_carriage_return, is_space}
 use Rattle.script_model.specs.Spellings.{hex_bytes, at_most, key_of, value_of, no_bytes}
 
 -- a text that writes bytes writes at most so many
@@ -75,7 +75,17 @@ words_pair (a ∷ b ∷ c ∷ []) key value e =
     record { key = k.are_bytes; key_length = k.size; value = v.are_bytes; value_length = v.size }
 words_pair (a ∷ b ∷ c ∷ d ∷ words) key value e = absurd cc
 
+not_comment : (b : Bool) (line : List ℕ) (o : Option Event) (key value : List ℕ) → cond b (comment line) o ≡ Some (set key value) → o ≡ Some (set key value)
+not_comment true line o key value e = no_event (list_any is_carriage_return line) e
+  where
+    no_event : (c : Bool) → cond c None (Some nothing) ≡ Some (set key value) → o ≡ Some (set key value)
+    no_event true e = absurd cc
+    no_event false e = absurd cc
+not_comment false line o key value e = e
+
 -- the pair of a `set` line
 pub IsPair-event_of : (line key value : List ℕ) → event_of line ≡ Some (set key value) → IsPair (key, value)
 unfolding event_of
-IsPair-event_of line key value e = words_pair (slice_split is_space line) key value e
+IsPair-event_of [] key value e = absurd cc
+IsPair-event_of (byte ∷ line) key value e =
+    words_pair (slice_split is_space (byte ∷ line)) key value (not_comment (is_hash byte) line (event_of_words (slice_split is_space (byte ∷ line))) key value e)

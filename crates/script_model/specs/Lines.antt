@@ -1,18 +1,29 @@
--- The lines of a script. A line ends with a line feed, which is no part of it, and its words are separated by exactly one space.
-use Rattle.std.specs.Prelude.{ℕ, ◌+◌, ◌==◌, List, [], ◌∷◌, length, codes, Bool, Option, None, Some, if◌then◌else◌}
-use Rattle.std.specs.List.{slice_split, position_or_len, before_first}
+-- The lines of a script. A line ends with a line feed, which is no part of it; the last line may lack it. Words are separated by exactly one space, and a carriage return is no part of any line.
+use Rattle.std.specs.Prelude.{ℕ, ◌+◌, ◌^◌, ◌==◌, ◌&&◌, nat_le, nat_lt, List, [], ◌∷◌, length, codes, Bool, Option, None, Some, if◌then◌else◌}
+use Rattle.std.specs.List.{list_any, slice_split, position_or_len, before_first, after_first}
 use Rattle.std.specs.Str.{bytes_eq}
 use Rattle.script_model.specs.Spellings.{key_of, value_of}
 
--- what ends a line, and what separates its words
 abbrev pub line_feed : ℕ
 line_feed = 10
+
+abbrev pub is_line_feed : ℕ → Bool
+is_line_feed byte = byte == line_feed
+
+abbrev pub is_carriage_return : ℕ → Bool
+is_carriage_return byte = byte == 13
 
 abbrev pub is_space : ℕ → Bool
 is_space byte = byte == 32
 
--- what a line asks for
+-- what begins a comment
+abbrev pub is_hash : ℕ → Bool
+is_hash byte = byte == 35
+
+-- ---- what a line asks for
+
 pub data Event : Type 0 where
+  nothing : Event
   set : (key value : List ℕ) → Event
 
 -- the pair of a key and a value, where both are there
@@ -29,13 +40,59 @@ event_of_words (word ∷ key ∷ []) = None
 event_of_words (word ∷ key ∷ value ∷ []) = if bytes_eq word (codes "set") then set_pair (key_of key) (value_of value) else None
 event_of_words (word ∷ key ∷ value ∷ more ∷ words) = None
 
--- what the line asks for, if it is one of these lines
+-- a comment asks for nothing
+abbrev pub comment : List ℕ → Option Event
+comment line = if list_any is_carriage_return line then None else Some nothing
+
+-- what the line asks for, if it is one of a script: it is empty, or begins with `#`, or is `set K V`
 unfoldable pub event_of : List ℕ → Option Event
-event_of line = event_of_words (slice_split is_space line)
+event_of [] = Some nothing
+event_of (byte ∷ line) = if is_hash byte then comment line else event_of_words (slice_split is_space (byte ∷ line))
 
-abbrev pub is_line_feed : ℕ → Bool
-is_line_feed byte = byte == line_feed
+-- ---- lines of an input
 
--- the line of an input that is one line with its line feed: the first line feed is the last byte
-unfoldable pub only_line : List ℕ → Option (List ℕ)
-only_line input = if position_or_len is_line_feed input + 1 == length input then Some (before_first is_line_feed input) else None
+-- the most bytes of a line, without its line feed, and of an input
+abbrev pub longest_line : ℕ
+longest_line = 8400000
+
+abbrev pub longest_input : ℕ
+longest_input = 2 ^ 30
+
+-- What stands between line feeds, in order. The last of them is a line where it has a byte.
+abbrev pub pieces : List ℕ → List (List ℕ)
+pieces input = slice_split is_line_feed input
+
+-- why a line is not read
+pub data LineFault : Type 0 where
+  long : LineFault
+  past : LineFault
+
+-- The line begins behind so many bytes of the input, and has so many bytes and so many of a line feed. It is too long, or byte number 2 ^ 30 + 1 of the input stands in it. Where both hold, the earlier byte decides.
+unfoldable pub line_fault : (before length feed : ℕ) → Option LineFault
+line_fault before length feed =
+    if nat_lt longest_line length && nat_le (before + longest_line) longest_input then Some long
+    else if nat_lt longest_input (before + length + feed) then Some past
+    else None
+
+-- the line with which bytes begin, how many line feeds end it, and what comes behind
+abbrev pub first_line : List ℕ → List ℕ
+first_line bytes = before_first is_line_feed bytes
+
+abbrev pub first_feed : List ℕ → ℕ
+first_feed bytes = if nat_lt (position_or_len is_line_feed bytes) (length bytes) then 1 else 0
+
+abbrev pub behind_line : List ℕ → List ℕ
+behind_line bytes = after_first is_line_feed bytes
+
+-- why the line with which bytes begin is not read, where so many bytes came before
+abbrev pub first_fault : ℕ → List ℕ → Option LineFault
+first_fault before bytes = line_fault before (length (first_line bytes)) (first_feed bytes)
+
+-- what a line asks for, if it is read
+abbrev pub event_if : Option LineFault → List ℕ → Option Event
+event_if None line = event_of line
+event_if (Some fault) line = None
+
+-- what a line asks for that begins behind so many bytes, if it is read and is one of a script
+unfoldable pub read_at : (before feed : ℕ) → List ℕ → Option Event
+read_at before feed line = event_if (line_fault before (length line) feed) line

@@ -1,0 +1,36 @@
+-- How a run ends and what it has written then. Want of memory and faults of the outside are no part of it.
+use Rattle.std.specs.Prelude.{ℕ, List, [], ◌∷◌, ◌++◌, codes}
+use Rattle.std.specs.Fmt.{decimal}
+use Rattle.script_model.specs.Lines.{line_feed}
+
+-- All was written; the words are no command; a line is none of a script; what was asked for is refused by name.
+pub data Ending : Type 0 where
+  done : Ending
+  usage : Ending
+  unread : Ending
+  refused : Ending
+
+pub record Output : Type 0 where
+  pub bytes : List ℕ
+  pub ending : Ending
+
+-- how much a run takes in: pairs of a state, live blocks, keys changed by a block
+pub record RunLimits : Type 0 where
+  pub pairs : ℕ
+  pub blocks : ℕ
+  pub changes : ℕ
+
+-- one line
+abbrev pub line_of : List ℕ → List ℕ
+line_of text = text ++ line_feed ∷ []
+
+abbrev pub bad_command : Output
+bad_command = record { bytes = line_of (codes "bad command"); ending = usage }
+
+-- the line with this number is refused
+abbrev pub syntax_at : ℕ → Output
+syntax_at number = record { bytes = line_of (codes "syntax " ++ decimal number); ending = unread }
+
+-- the state would have more pairs than it may
+abbrev pub full_pairs : Output
+full_pairs = record { bytes = line_of (codes "refused full-pairs"); ending = refused }
