@@ -2,4 +2,5 @@ pub mod State
 pub mod Tree
 pub mod Texts
 pub mod Root
+pub mod Laws
 pub mod Examples

@@ -1,6 +1,6 @@
 -- The texts of a trie: the record of each of its nodes, in which a child is named by the SHA-256 of its text.
 -- What stands in a subtree's texts depends on the rests and values below its place alone.
-use Rattle.std.specs.Prelude.{ℕ, ◌+◌, List, [], ◌∷◌, ◌++◌, length, map, Bool, true, false, Option, None, Some}
+use Rattle.std.specs.Prelude.{ℕ, ◌+◌, List, [], ◌∷◌, ◌++◌, length, map, true, false, Option, None, Some}
 use Rattle.std.specs.Option.{option_map}
 use Rattle.sha2.specs.Sha256.{sha256}
 use Rattle.byte_model.specs.PackedPath.{packed}

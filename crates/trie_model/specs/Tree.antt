@@ -1,6 +1,6 @@
 -- The canonical trie of a list of rows (after nearcore; the exact rule is this project's).
 -- Three cases: one row is a leaf; several rows whose rests share a front are an extension by the longest such front; other rows are a branch.
-use Rattle.std.specs.Prelude.{ℕ, zero, suc, ◌+◌, ◌==◌, max, List, [], ◌∷◌, length, Option, None, Some, if◌then◌else◌}
+use Rattle.std.specs.Prelude.{ℕ, zero, suc, ◌==◌, max, List, [], ◌∷◌, length, Option, None, Some, if◌then◌else◌}
 use Rattle.std.specs.List.{filter_map}
 use Rattle.std.specs.Option.{option_map}
 use Rattle.trie_model.specs.State.{Row}
