@@ -1,0 +1,3 @@
+pub mod NibbleLists
+pub mod CommonLengths
+pub mod PackedPaths

@@ -1,0 +1,51 @@
+-- What a loop over pairs of nibbles writes, and a packed path by whether its length is even.
+use Rattle.std.proofs.Common.{ℕ, zero, suc, ◌+◌, ◌*◌, ◌/◌, ◌%◌, ◌<◌, ◌≡◌, Bool, true, false, cond, List, [], ◌∷◌, ◌++◌, length, take, drop, get_or, refl, ap, arith, length-drop, inl, inr, ◌∙◌, ◌⊎◌, eqb}
+use Rattle.std.proofs.lemmas.Bool.{eq-eqb, ne_eqb}
+use Rattle.std.proofs.lemmas.List.Elements.{All-get_or, All-from_recursion}
+use Rattle.byte_model.specs.Nibbles.{AreNibbles}
+use Rattle.byte_model.specs.PackedPath.{packed, packed_behind, two_to_a_byte, leaf_flag, odd_flag}
+
+pub get_or-lt_16 : (path : List ℕ) (i : ℕ) → AreNibbles path → i < length path → get_or path i 0 < 16
+get_or-lt_16 path i are within = All-get_or (λ nibble. nibble < 16) path i 0 within (All-from_recursion (λ nibble. nibble < 16) path are)
+
+pub two_to_a_byte-more : (path : List ℕ) (i : ℕ) → 2 * i + 1 < length path → two_to_a_byte (take (2 * (i + 1)) path) ≡ two_to_a_byte (take (2 * i) path) ++ (16 * get_or path (2 * i) 0 + get_or path (2 * i + 1) 0) ∷ []
+unfolding two_to_a_byte
+two_to_a_byte-more [] i within = absurd (omega (arith, within))
+two_to_a_byte-more (last ∷ []) i within = absurd (omega (arith, within))
+two_to_a_byte-more (high ∷ low ∷ rest) zero within = refl
+two_to_a_byte-more (high ∷ low ∷ rest) (suc i) within =
+    let inside : 2 * i + 1 < length rest = omega (arith, within) in
+    let next : 2 * (suc i + 1) ≡ suc (suc (2 * (i + 1))) = omega arith in
+    let here : 2 * suc i ≡ suc (suc (2 * i)) = omega arith in
+    let after : suc (suc (2 * i)) + 1 ≡ suc (suc (2 * i + 1)) = omega arith in
+    rw (next, here, after) (ap (λ bytes. (16 * high + low) ∷ bytes) (two_to_a_byte-more rest i inside))
+
+pub packed-even : (leaf : Bool) (path : List ℕ) → length path % 2 ≡ 0 → packed leaf path ≡ cond leaf leaf_flag 0 ∷ two_to_a_byte path
+unfolding packed packed_behind two_to_a_byte
+packed-even leaf [] even = refl
+packed-even leaf (first ∷ rest) even =
+    let test : eqb (length (first ∷ rest) % 2) 1 ≡ false = ne_eqb _ _ (λ odd. omega (arith, even, odd)) in
+    rw test refl
+
+pub packed-odd : (leaf : Bool) (path : List ℕ) → length path % 2 ≡ 1 → packed leaf path ≡ (cond leaf leaf_flag 0 + odd_flag + get_or path 0 0) ∷ two_to_a_byte (drop 1 path)
+unfolding packed packed_behind
+packed-odd leaf [] odd = absurd (omega (arith, odd))
+packed-odd leaf (first ∷ rest) odd =
+    let test : eqb (length (first ∷ rest) % 2) 1 ≡ true = eq-eqb _ _ odd in
+    rw test refl
+
+length-two_to_a_byte : (path : List ℕ) → length (two_to_a_byte path) ≡ length path / 2
+unfolding two_to_a_byte
+length-two_to_a_byte [] = refl
+length-two_to_a_byte (last ∷ []) = refl
+length-two_to_a_byte (high ∷ low ∷ rest) = omega (arith, length-two_to_a_byte rest)
+
+pub length-packed : (leaf : Bool) (path : List ℕ) → length (packed leaf path) ≡ 1 + length path / 2
+length-packed leaf path =
+    elim (parity path) [
+      | inl even ↦ ap length (packed-even leaf path even) ∙ omega (arith, length-two_to_a_byte path)
+      | inr odd ↦ ap length (packed-odd leaf path odd) ∙ omega (arith, length-two_to_a_byte (drop 1 path), length-drop 1 path)
+    ]
+  where
+    parity : (path : List ℕ) → (length path % 2 ≡ 0) ⊎ (length path % 2 ≡ 1)
+    parity path = grind arith

@@ -1,0 +1,13 @@
+//! Keys as paths of nibbles, and the packed form that a path has in a record.
+#![tactic(auto)]
+
+mod nibbles;
+mod packing;
+mod path;
+
+pub use nibbles::Nibbles;
+pub use packing::{pack, packed_len, put_packed};
+pub use path::nibble_path;
+
+#[cfg(test)]
+mod tests;

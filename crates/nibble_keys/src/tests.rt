@@ -1,0 +1,37 @@
+use super::*;
+use base_core::Text;
+use std::test::Fail;
+
+#[test]
+fn nibbles_of_keys(rt: HostRuntime) -> Result<(), Fail> {
+    let key = Nibbles::new(&[0x12, 0x34, 0x56]);
+    let near = Nibbles::new(&[0x12, 0x35]);
+    let shifted = Nibbles::new(&[0x23, 0x45, 0x60]);
+    assert_eq!(rt; key.len(), 6);
+    assert_eq!(rt; near.len(), 4);
+    assert_eq!(rt; (key.at(0), key.at(5)), (1, 6));
+    assert_eq!(rt; key.rest(2).len(), 4);
+    assert_eq!(rt; key.common(&near), 3);
+    assert_eq!(rt; key.rest(1).common(&near.rest(1)), 2);
+    assert_eq!(rt; key.rest(1).common(&shifted), 5);
+    let path = nibble_path(rt.alloc(), &[0x12, 0xf0])?;
+    assert_eq!(rt; path.as_slice(), [1, 2, 15, 0].as_slice());
+    Ok(())
+}
+
+#[test]
+fn packed_paths(rt: HostRuntime) -> Result<(), Fail> {
+    let table: [(Text, &[u8]); 6] = [
+        (pack(rt.alloc(), &[], true)?, &[0x20]),
+        (pack(rt.alloc(), &[6, 1], true)?, &[0x20, 0x61]),
+        (pack(rt.alloc(), &[11], true)?, &[0x3b]),
+        (pack(rt.alloc(), &[6], false)?, &[0x16]),
+        (pack(rt.alloc(), &[6, 1], false)?, &[0x00, 0x61]),
+        (pack(rt.alloc(), &[1, 2, 3], false)?, &[0x11, 0x23]),
+    ];
+    for (packed, want) in table {
+        assert_eq!(rt; packed.as_slice(), want);
+    }
+    assert_eq!(rt; packed_len(3), 2);
+    Ok(())
+}
