@@ -4,3 +4,8 @@ pub mod Sorted
 pub mod Shared
 pub mod Bound
 pub mod Shaped
+pub mod Showing
+pub mod SeenLemmas
+pub mod Branching
+pub mod Subtrees
+pub mod Whole

@@ -79,7 +79,7 @@ some_nibble p (y ∷ q) h = omega arith
 pub all-behind : (row : Row) (rows : List Row) → Rises (row ∷ rows) → AllFrom 0 rows
 all-behind row rows h = AllByRecursion-weaker (λ r. IsBelow row.0 r.0) (λ r. StartsFrom 0 r.0) (λ r b. some_nibble row.0 r.0 b) rows h.0
 
-none-ends : (rows : List Row) → AllFrom 0 rows → ends_here rows ≡ None
+pub none-ends : (rows : List Row) → AllFrom 0 rows → ends_here rows ≡ None
 unfolding ends_here
 none-ends [] h = refl
 none-ends (([], value) ∷ rows) h = absurd h.0

@@ -36,8 +36,8 @@ sum-two f x y (suc n) h k =
 -- ---- the children that rows have
 
 -- the digests of the children of a branch of rows
-abbrev pub kids_of : List Row → ℕ → Option (List ℕ)
-kids_of rows x = name_of (tree_of (below (x ∷ []) rows)) (text (tree_of (below (x ∷ []) rows)))
+abbrev pub tree_kids : List Row → ℕ → Option (List ℕ)
+tree_kids rows x = name_of (tree_of (below (x ∷ []) rows)) (text (tree_of (below (x ∷ []) rows)))
 
 named : (row next : Row) (rows : List Row) (f : List Row → Tree) (front t : List ℕ) → is_some (name_of (forked f front (row ∷ next ∷ rows)) t) ≡ true
 unfolding name_of
@@ -51,7 +51,7 @@ named-some (row ∷ []) t some = ap (λ (tree : Tree). is_some (name_of tree t))
 named-some (row ∷ next ∷ rows) t some = ap (λ (tree : Tree). is_some (name_of tree t)) (sym (tree_by-tree_of (row ∷ next ∷ rows))) ∙ named row next rows tree_of (common_front row (next ∷ rows)) t
 
 abbrev one_at : List Row → ℕ → ℕ
-one_at rows x = if is_some (kids_of rows x) then 1 else 0
+one_at rows x = if is_some (tree_kids rows x) then 1 else 0
 
 -- some row begins with a nibble
 abbrev Begins : ℕ → List Row → Type 0
@@ -99,7 +99,7 @@ ending-first : (value : List ℕ) (rows : List Row) → ending (([], value) ∷ 
 unfolding ends_here
 ending-first value rows = refl
 
-pub shaped : (row next : Row) (rows : List Row) → Rises (row ∷ next ∷ rows) → AllNibbles (row ∷ next ∷ rows) → common_front row (next ∷ rows) ≡ [] → 2 ≤ kid_count (kids_of (row ∷ next ∷ rows)) + ending (row ∷ next ∷ rows)
+pub shaped : (row next : Row) (rows : List Row) → Rises (row ∷ next ∷ rows) → AllNibbles (row ∷ next ∷ rows) → common_front row (next ∷ rows) ≡ [] → 2 ≤ kid_count (tree_kids (row ∷ next ∷ rows)) + ending (row ∷ next ∷ rows)
 shaped (path, value) next rows rises small forks = go path (last_of next rows).0 refl refl
   where
     all : List ℕ → List Row
@@ -112,7 +112,7 @@ shaped (path, value) next rows rises small forks = go path (last_of next rows).0
     last_small = last-all (λ r. AreNibbles r.0) next rows small.1
     kid : (y : ℕ) (q p : List ℕ) → (last_of next rows).0 ≡ y ∷ q → one_at (all p) y ≡ 1
     kid y q p e = one_of (all p) y (begins-last y q (p, value) (next ∷ rows) e)
-    go : (p q : List ℕ) → path ≡ p → (last_of next rows).0 ≡ q → 2 ≤ kid_count (kids_of (all path)) + ending (all path)
+    go : (p q : List ℕ) → path ≡ p → (last_of next rows).0 ≡ q → 2 ≤ kid_count (tree_kids (all path)) + ending (all path)
     go [] [] e f = absurd (subst (IsBelow path) f above)
     go (x ∷ p) [] e f = absurd (subst (IsBelow path) f above)
     go [] (y ∷ q) e f =

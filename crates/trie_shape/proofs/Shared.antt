@@ -3,12 +3,13 @@ use Rattle.std.proofs.Common.{◌≡◌, ◌≢◌, ℕ, zero, suc, ◌<◌, ◌
 use Rattle.std.specs.List.{AllByRecursion}
 use Rattle.std.proofs.lemmas.Bool.{false_from_ne_true}
 use Rattle.std.proofs.Math.Seq.{drop-append_seam}
+use Rattle.std.proofs.lemmas.List.{length-take-le}
 use Rattle.trie_model.specs.State.{Row}
 use Rattle.trie_model.specs.Tree.{Tree, branch, rest_behind, below, ends_here, common, common_front, tree_of}
 use Rattle.trie_model.proofs.Rests.{under, under-below, common_front-all, AllHaveFront, rest_behind-front, same_nibble, equal_of_test, none_cons, first_same, rest_same}
 use Rattle.trie_model.proofs.Trees.{tree_of-nil, tree_of-one, tree_of-forks}
 use Rattle.trie_shape.specs.Grown.{grown}
-use Rattle.trie_shape.specs.Runs.{IsBelow, Rises}
+use Rattle.trie_shape.specs.Runs.{IsBelow, Rises, front_of}
 use Rattle.trie_shape.proofs.Growth.{common_front-under, tree_of-under}
 use Rattle.trie_shape.proofs.Rising.{last_of, common_front-rising}
 
@@ -58,11 +59,6 @@ rises-under front (row ∷ rows) h = (all-below-front front row.0 rows h.0, rise
 
 -- ---- what rows share
 
--- the common front of rows, of which there are none or some
-abbrev pub front_of : List Row → List ℕ
-front_of [] = []
-front_of (row ∷ rows) = common_front row rows
-
 pub all-front : (rows : List Row) → AllHaveFront (front_of rows) rows
 all-front [] = tt
 all-front (row ∷ rows) = common_front-all row rows
@@ -94,3 +90,6 @@ rest-forks (row ∷ rows) =
 
 pub front-rising : (row : Row) (rows : List Row) → Rises (row ∷ rows) → front_of (row ∷ rows) ≡ common row.0 (last_of row rows).0
 front-rising = common_front-rising
+
+pub length-common : (p q : List ℕ) (n : ℕ) → n ≤ length p → n ≤ length q → take n p ≡ take n q → (n < length p → n < length q → get_or p n 0 ≢ get_or q n 0) → length (common p q) ≡ n
+length-common p q n short_p short_q same differ = ap length (common-of_length n p q short_p short_q same differ) ∙ length-take-le n p short_p
