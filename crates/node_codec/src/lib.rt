@@ -1,0 +1,15 @@
+//! The nodes of a trie, and the records that they are stored as.
+#![tactic(auto)]
+
+mod kids;
+mod node;
+mod value_ref;
+mod writing;
+
+pub use kids::Kids;
+pub use node::Node;
+pub use value_ref::ValueRef;
+pub use writing::write_node;
+
+#[cfg(test)]
+mod tests;
