@@ -3,3 +3,4 @@ pub mod Nibbles
 pub mod PackedPath
 pub mod Below
 pub mod Node
+pub mod Laws

@@ -1,9 +1,8 @@
 -- The nodes of a trie and the one record that spells each (after nearcore; the ordinals, the packed paths and the numbers of the costs are this project's).
-use Rattle.std.specs.Prelude.{ℕ, ◌+◌, ◌*◌, ◌^◌, ◌<◌, ◌≤◌, ◌≡◌, ◌≢◌, Bool, true, false, List, [], ◌∷◌, ◌++◌, length, Option, None, Some, is_some, IfSome, if◌then◌else◌}
+use Rattle.std.specs.Prelude.{ℕ, ◌+◌, ◌*◌, ◌^◌, ◌≤◌, ◌≢◌, true, false, List, [], ◌∷◌, ◌++◌, length, Option, None, Some, is_some, if◌then◌else◌}
 use Rattle.std.specs.Option.{option_map}
 use Rattle.byte_model.specs.Borsh.{borsh_u16, borsh_u32, borsh_u64, borsh_bytes}
-use Rattle.byte_model.specs.Nibbles.{AreNibbles}
-use Rattle.byte_model.specs.PackedPath.{packed, longest_path}
+use Rattle.byte_model.specs.PackedPath.{packed}
 use Rattle.byte_model.specs.Below.{sum_below, joined_below}
 
 -- how a node names a value: how many bytes it has, and their SHA-256

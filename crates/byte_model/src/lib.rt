@@ -1,2 +1,4 @@
 //! The bytes of the store's records.
 #![tactic(auto)]
+
+pub mod laws;

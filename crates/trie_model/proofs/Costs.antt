@@ -1,18 +1,20 @@
 -- Texts and usages of places.
-use Rattle.std.proofs.Common.{◌≡◌, ℕ, ◌+◌, List, [], ◌∷◌, sum, sum_by, Option, None, Some, IfSome, option_map, refl, sym, ◌∙◌, ap, subst, length, add-zero}
+use Rattle.std.proofs.Common.{◌++◌, map, ◌≡◌, ℕ, ◌+◌, List, [], ◌∷◌, sum, sum_by, Option, None, Some, IfSome, option_map, refl, sym, ◌∙◌, ap, subst, length, add-zero}
 use Rattle.std.proofs.lemmas.List.Sums.{sum_by-cons, sum-map}
+use Rattle.std.specs.Prelude.{⊤}
+use Rattle.sha2.specs.Sha256.{sha256}
 use Rattle.byte_model.specs.Below.{sum_below, joined_below}
 use Rattle.byte_model.specs.Node as node
 use Rattle.byte_model.specs.Node.{Node, ValueRef, cost_of, spelled, own_cost}
 use Rattle.trie_model.specs.State.{State, Row, rows_of}
 use Rattle.trie_model.specs.Tree.{Tree, nothing, leaf, branch, extension, below, tree_of, ends_here}
-use Rattle.trie_model.specs.Texts.{text, usage, top_cost, node_of, places, value_ref}
-use Rattle.trie_model.specs.Root.{subtree_at, text_at, places_of, total}
-use Rattle.trie_model.specs.Laws.{children_usage}
+use Rattle.trie_model.specs.Texts.{text, usage, top_cost, node_of, places, value_ref, name_of}
+use Rattle.trie_model.specs.Root.{subtree_at, text_at, places_of, texts_of, total}
+use Rattle.trie_model.specs.Laws.{children_usage, NamesChildren}
 use Rattle.trie_model.proofs.Joined.{sum_by-joined_below, sum_below-agree}
 use Rattle.trie_model.proofs.Rests.{below-nil, below-append}
 use Rattle.trie_model.proofs.Trees.{tree_of-nil, tree_of-one, tree_of-forks, tree_of-shares, by_cases}
-use Rattle.trie_model.proofs.Places.{gathered, at_place, map-places}
+use Rattle.trie_model.proofs.Places.{tree_texts, gathered, at_place, map-places}
 
 -- ---- a state's subtrees
 
@@ -103,3 +105,40 @@ usage-node_of state place =
     let rows = below place (rows_of state) in
     IfSome-weaker (node_of (tree_of rows)) (λ node. usage (tree_of rows) ≡ own_cost node + children_of rows node) (λ node. usage (tree_of rows) ≡ own_cost node + children_usage state place node)
     (λ node h. h ∙ ap (λ n. own_cost node + n) (sym (children_usage-children_of state place node))) (adds_up rows)
+
+-- ---- a node names its children
+
+abbrev Names : List Row → Node → Type 0
+Names rows (node.leaf path value) = ⊤
+Names rows (node.branch value kids) = (x : ℕ) → kids x ≡ name_of (tree_of (below (x ∷ []) rows)) (text (tree_of (below (x ∷ []) rows)))
+Names rows (node.extension path child) = child ≡ sha256 (text (tree_of (below path rows)))
+
+names : (rows : List Row) → IfSome (node_of (tree_of rows)) (Names rows)
+unfolding node_of
+names = by_cases (λ rows. IfSome (node_of (tree_of rows)) (Names rows)) (record {
+  none = subst (λ t. IfSome (node_of t) (Names [])) (sym tree_of-nil) tt;
+  one = λ row. subst (λ t. IfSome (node_of t) (Names (row ∷ []))) (sym (tree_of-one row)) tt;
+  forks = λ row next rows e further. subst (λ t. IfSome (node_of t) (Names (row ∷ next ∷ rows))) (sym (tree_of-forks row next rows e)) (λ x. refl);
+  shares = λ row next rows x front e further. subst (λ t. IfSome (node_of t) (Names (row ∷ next ∷ rows))) (sym (tree_of-shares row next rows x front e)) refl;
+})
+
+names_children : (state : State) (place : List ℕ) (node : Node) → Names (below place (rows_of state)) node → NamesChildren state place node
+unfolding subtree_at
+names_children state place (node.leaf path value) h = tt
+names_children state place (node.branch value kids) h = λ x. h x ∙ ap (λ rows. name_of (tree_of rows) (text (tree_of rows))) (sym (below-append place (x ∷ []) (rows_of state)))
+names_children state place (node.extension path child) h = h ∙ ap (λ rows. sha256 (text (tree_of rows))) (sym (below-append place path (rows_of state)))
+
+pub NamesChildren-node_of : (state : State) (place : List ℕ) → IfSome (node_of (subtree_at state place)) (NamesChildren state place)
+unfolding subtree_at
+NamesChildren-node_of state place =
+    let rows = below place (rows_of state) in
+    IfSome-weaker (node_of (tree_of rows)) (Names rows) (NamesChildren state place) (names_children state place) (names rows)
+
+-- ---- the texts by recursion
+
+pub texts_of-tree_texts : (state : State) → texts_of state ≡ tree_texts (tree_of (rows_of state)) ++ map (λ row. row.1) (rows_of state)
+unfolding texts_of subtree_at
+texts_of-tree_texts state =
+    let rows = rows_of state in
+    ap (λ (texts : List (List ℕ)). texts ++ map (λ (row : Row). row.1) rows)
+    (ap (λ tree. map (at_place text rows) (places tree)) (subtree_at-root state) ∙ map-places text rows)

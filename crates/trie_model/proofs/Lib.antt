@@ -7,3 +7,9 @@ pub mod Places
 pub mod Costs
 pub mod Roots
 pub mod Children
+pub mod Order
+pub mod Pairs
+pub mod Growth
+pub mod Bounds
+pub mod Shapes
+pub mod Distinct

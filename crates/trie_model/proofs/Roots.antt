@@ -1,12 +1,13 @@
 -- Roots, and tables that hold a state.
 use Rattle.std.proofs.Common.{◌≡◌, ◌≢◌, ◌↔◌, ℕ, List, [], ◌∷◌, length, map, Some, Contains, refl, sym, ◌∙◌, ap, subst}
 use Rattle.std.proofs.lemmas.List.Elements.{Contains-append_left}
-use Rattle.std.specs.FinMap.{get, entries, empty, len-entries, empty_of_len}
+use Rattle.std.specs.FinMap.{get, entries, empty, len-entries, empty_of_len, same_entries_map}
 use Rattle.sha2.specs.Sha256.{sha256}
 use Rattle.trie_model.specs.State.{State, Row, rows_of}
 use Rattle.trie_model.specs.Tree.{tree_of}
 use Rattle.trie_model.specs.Texts.{text, places}
 use Rattle.trie_model.specs.Root.{zero_digest, text_at, places_of, texts_of, root_of, root, Table, Holds, NoClash}
+use Rattle.byte_model.proofs.Digits.{nibbles-same}
 use Rattle.trie_model.proofs.Worked.{Pair, rows_of_pairs, root-empty}
 use Rattle.trie_model.proofs.Members.{IsIn, in-map, contains_of_in, in_of_contains, all_at}
 use Rattle.trie_model.proofs.Trees.{tree_of-one, tree_of-forks, tree_of-shares, by_cases}
@@ -73,3 +74,31 @@ empty_of_root state nonzero e = go (rows_of state) refl
 
 pub root-zero : (state : State) → NoneZero state → (root state ≡ zero_digest) ↔ (state ≡ empty)
 root-zero state nonzero = (empty_of_root state nonzero, λ e. ap root e ∙ root-empty)
+
+-- ---- rows tell states apart
+
+first_row : {r s : Row} {rs ss : List Row} → r ∷ rs ≡ s ∷ ss → r ≡ s
+first_row e = cc
+
+other_rows : {r s : Row} {rs ss : List Row} → r ∷ rs ≡ s ∷ ss → rs ≡ ss
+other_rows e = cc
+
+pairs_same : (ms ns : List Pair) → rows_of_pairs ms ≡ rows_of_pairs ns → ms ≡ ns
+pairs_same [] [] e = refl
+pairs_same [] (n ∷ ns) e = absurd (cons_none _ _ (sym e))
+pairs_same (m ∷ ms) [] e = absurd (cons_none _ _ e)
+pairs_same (m ∷ ms) (n ∷ ns) e =
+    let key = nibbles-same m.0 n.0 (first_path e) in
+    let value = first_value e in
+    let further = pairs_same ms ns (other_rows e) in
+    λ i. (key i, value i) ∷ further i
+  where
+    first_path : {r s : Row} {rs ss : List Row} → r ∷ rs ≡ s ∷ ss → r.0 ≡ s.0
+    first_path e = ap (λ (row : Row). row.0) (first_row e)
+
+    first_value : {r s : Row} {rs ss : List Row} → r ∷ rs ≡ s ∷ ss → r.1 ≡ s.1
+    first_value e = ap (λ (row : Row). row.1) (first_row e)
+
+pub rows_of-same : (m n : State) → rows_of m ≡ rows_of n → m ≡ n
+unfolding rows_of
+rows_of-same m n e = same_entries_map m n (pairs_same (entries m) (entries n) e)

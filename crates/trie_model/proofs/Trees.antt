@@ -10,12 +10,12 @@ unfoldable pub needed : List Row → ℕ
 needed [] = 0
 needed (row ∷ rows) = max (suc (length row.0)) (needed rows)
 
-needed-longest : (rows : List Row) → needed rows ≤ suc (longest rows)
+pub needed-longest : (rows : List Row) → needed rows ≤ suc (longest rows)
 unfolding needed longest
 needed-longest [] = omega arith
 needed-longest (row ∷ rows) = let h = needed-longest rows in omega arith
 
-length-rest_behind : (front path rest : List ℕ) → rest_behind front path ≡ Some rest → length rest + length front ≡ length path
+pub length-rest_behind : (front path rest : List ℕ) → rest_behind front path ≡ Some rest → length rest + length front ≡ length path
 unfolding rest_behind
 length-rest_behind [] path rest e = let h : path ≡ rest = cc in rw h (omega arith)
 length-rest_behind (x ∷ front) [] rest e = cc
@@ -25,7 +25,7 @@ length-rest_behind (x ∷ front) (y ∷ path) rest e =
       | false ↦ λ h. cc
     ] e
 
-needed-below : (x : ℕ) (front : List ℕ) (rows : List Row) → needed (below (x ∷ front) rows) ≤ needed rows - 1
+pub needed-below : (x : ℕ) (front : List ℕ) (rows : List Row) → needed (below (x ∷ front) rows) ≤ needed rows - 1
 unfolding needed below
 needed-below x front [] = omega arith
 needed-below x front (row ∷ rows) =

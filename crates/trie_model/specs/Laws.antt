@@ -1,12 +1,13 @@
 -- What the laws over the definitions speak of.
-use Rattle.std.specs.Prelude.{◌≢◌, ℕ, ◌<◌, ◌↔◌, List, [], ◌∷◌, ◌++◌, Option, None, Some, Contains, ⊤, option_map}
+use Rattle.std.specs.Prelude.{◌≡◌, ◌≢◌, ℕ, ◌<◌, ◌↔◌, List, [], ◌∷◌, ◌++◌, Option, None, Some, Contains, ⊤, option_map}
+use Rattle.sha2.specs.Sha256.{sha256}
 use Rattle.byte_model.specs.Below.{sum_below}
 use Rattle.byte_model.specs.Node.{Node, leaf, branch, extension}
 use Rattle.trie_model.specs.State.{State, Row, rows_of}
 use Rattle.trie_model.specs.Tree as tree
 use Rattle.trie_model.specs.Tree.{Tree, below}
-use Rattle.trie_model.specs.Texts.{usage}
-use Rattle.trie_model.specs.Root.{subtree_at, places_of}
+use Rattle.trie_model.specs.Texts.{usage, name_of}
+use Rattle.trie_model.specs.Root.{subtree_at, text_at, places_of}
 
 -- the usages of the child places of the node at a place
 abbrev pub children_usage : State → List ℕ → Node → ℕ
@@ -30,3 +31,9 @@ held_by (tree.extension path child) = None
 -- the row whose value the node at a place holds, if it holds one
 unfoldable pub held_at : State → List ℕ → Option Row
 held_at state place = option_map (λ row. (place ++ row.0, row.1)) (held_by (subtree_at state place))
+
+-- The node at a place names its children by the digests of their texts, and a branch has none where there is no child.
+abbrev pub NamesChildren : State → List ℕ → Node → Type 0
+NamesChildren state place (leaf path value) = ⊤
+NamesChildren state place (branch value kids) = (x : ℕ) → kids x ≡ name_of (subtree_at state (place ++ x ∷ [])) (text_at state (place ++ x ∷ []))
+NamesChildren state place (extension path child) = child ≡ sha256 (text_at state (place ++ path))

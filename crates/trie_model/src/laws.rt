@@ -1,14 +1,18 @@
 //! Laws over the definitions, in other words than theirs. A law is proved where its function is: there is nothing to run.
 
-ghost use Rattle.std.specs.Prelude.{◌≡◌, ◌≢◌, ◌+◌, ◌<◌, ◌↔◌, ℕ, List, [], ◌∷◌, ◌++◌, length, sum_by, filter_map, Contains, IfSome, IsNone};
+ghost use Rattle.std.specs.Prelude.{◌≡◌, ◌≢◌, ◌+◌, ◌^◌, ◌<◌, ◌↔◌, ℕ, List, [], ◌∷◌, ◌++◌, sum_by, filter_map, Contains, IfSome};
+ghost use Rattle.std.specs.Ordering.{nat_cmp};
+ghost use Rattle.std.specs.List.Sorted.{IsStrictlySortedBy};
+ghost use Rattle.std.specs.Cmp.Lexicographic.{slice_cmp};
 ghost use Rattle.std.specs.FinMap.{empty};
 ghost use Rattle.sha2.specs.Sha256.{sha256};
-ghost use Rattle.byte_model.specs.Node.{own_cost, spelled};
+ghost use Rattle.byte_model.specs.Node.{IsShaped, own_cost, spelled};
+ghost use Rattle.byte_model.specs.Laws.{FitsRecord};
 ghost use Rattle.trie_model.specs.State.{State, Row, IsState, rows_of};
-ghost use Rattle.trie_model.specs.Tree.{below, longest, nothing, tree_by, tree_of, tree_within};
+ghost use Rattle.trie_model.specs.Tree.{below, longest, tree_by, tree_of, tree_within};
 ghost use Rattle.trie_model.specs.Texts.{node_of, top_cost, usage};
 ghost use Rattle.trie_model.specs.Root.{NoClash, Holds, Table, places_of, root, subtree_at, text_at, texts_of, total, zero_digest};
-ghost use Rattle.trie_model.specs.Laws.{ChildrenArePlaces, children_usage, held_at};
+ghost use Rattle.trie_model.specs.Laws.{ChildrenArePlaces, NamesChildren, children_usage, held_at};
 
 /// The bound on the depth never shows: the trie of some rows is given by the three cases over the tries of the rows below, and every bound above the longest path gives it.
 pub fn trie_by_three_cases()
@@ -32,6 +36,21 @@ pub fn usage_sums_costs()
     ensures total { (state : State) → total state ≡ sum_by (λ place. top_cost (subtree_at state place)) (places_of state) }
 {}
 
+/// A node names its children by the digests of their texts.
+pub fn children_are_named_by_digests()
+    ensures { (state : State) (place : List ℕ) → IfSome (node_of (subtree_at state place)) (NamesChildren state place) }
+{}
+
+/// Usages stay far below the end of eight bytes.
+pub fn usage_is_small()
+    ensures { (state : State) → IsState state → (place : List ℕ) → usage (subtree_at state place) < 2 ^ 60 }
+{}
+
+/// The node at a place has the shape of nodes, and its parts fit their fields.
+pub fn nodes_fit_records()
+    ensures { (state : State) → IsState state → (place : List ℕ) → IfSome (node_of (subtree_at state place)) (λ node. IsShaped node × FitsRecord node) }
+{}
+
 /// Where no text of a state has the zero digest, that is the root of the empty state alone.
 pub fn zero_root_means_empty()
     ensures { (state : State) → ((t : List ℕ) → Contains (texts_of state) t → sha256 t ≢ zero_digest) → (root state ≡ zero_digest) ↔ (state ≡ empty) }
@@ -45,4 +64,24 @@ pub fn held_texts_do_not_clash()
 /// The children of a place are places, and its branch names no other.
 pub fn children_are_places()
     ensures { (state : State) (place : List ℕ) → Contains (places_of state) place → IfSome (node_of (subtree_at state place)) (ChildrenArePlaces state place) }
+{}
+
+/// Places stand in the order of their paths, a prefix first, and each once.
+pub fn places_rise()
+    ensures { (state : State) → IsStrictlySortedBy (slice_cmp nat_cmp) (places_of state) }
+{}
+
+/// Each pair stands at exactly one place: the values that the nodes hold at the places, in order, are those of the rows, with their paths.
+pub fn pairs_stand_at_one_place()
+    ensures { (state : State) → IsState state → filter_map (held_at state) (places_of state) ≡ rows_of state }
+{}
+
+/// No two states have the same rows.
+pub fn rows_tell_states_apart()
+    ensures { (m n : State) → rows_of m ≡ rows_of n → m ≡ n }
+{}
+
+/// Where different texts of two states have different digests, and none the zero digest, their roots are the same exactly where the states are.
+pub fn roots_tell_states_apart()
+    ensures { (m n : State) → IsState m → IsState n → NoClash (texts_of m ++ texts_of n) → (root m ≡ root n) ↔ (m ≡ n) }
 {}

@@ -1,5 +1,5 @@
 //! The state of a shard and its canonical trie.
 #![tactic(auto)]
 
-mod examples;
-mod laws;
+pub mod examples;
+pub mod laws;

@@ -1,0 +1,4 @@
+pub mod Widths
+pub mod Digits
+pub mod Paths
+pub mod Spellings

@@ -1,0 +1,246 @@
+-- Rows that share a front, and rows that fork: what their tries are, made from those of their parts.
+use Rattle.std.proofs.Common.{◌≡◌, ◌≢◌, ℕ, zero, suc, ◌<◌, ◌≤◌, ◌==◌, true, false, if◌then◌else◌, List, [], ◌∷◌, ◌++◌, Option, None, Some, refl, sym, ◌∙◌, ap, ap₂, subst, inl, inr, ◌⊎◌, arith, append-nil, nat_cmp, Less, Equal, Greater}
+use Rattle.std.specs.List.{AllByRecursion}
+use Rattle.std.specs.Ordering.{ordering_then}
+use Rattle.std.specs.Cmp.Lexicographic.{slice_cmp}
+use Rattle.std.proofs.lemmas.Bool.{cases_lt, cases_eq}
+use Rattle.std.proofs.lemmas.Bool.Decides.{nat_tests}
+use mathlib.Core.Path.{fun_ext}
+use Rattle.byte_model.specs.Below.{joined_below}
+use Rattle.byte_model.proofs.Digits.{nat_cmp-greater, nat_cmp-itself}
+use Rattle.trie_model.specs.State.{Row}
+use Rattle.trie_model.specs.Tree.{Tree, nothing, leaf, branch, extension, rest_behind, below, ends_here, common, common_front, tree_of}
+use Rattle.trie_model.proofs.Rests.{same_nibble, under, below-append, below-under, below-rows_append, under-below, AllHaveFront}
+use Rattle.trie_model.proofs.Trees.{tree_of-nil, tree_of-one, tree_of-forks, tree_of-shares}
+use Rattle.trie_model.proofs.Order.{Before, RisingRows}
+use Rattle.trie_model.proofs.Pairs.{here}
+
+-- ---- a front before all paths
+
+-- a tree with a front put before all its paths: a leaf's or an extension's path grows, and a branch becomes the child of an extension
+unfoldable pub grown : List ℕ → Tree → Tree
+grown [] tree = tree
+grown (x ∷ front) nothing = nothing
+grown (x ∷ front) (leaf path value) = leaf (x ∷ front ++ path) value
+grown (x ∷ front) (branch value kids) = extension (x ∷ front) (branch value kids)
+grown (x ∷ front) (extension path child) = extension (x ∷ front ++ path) child
+
+pub under-nil : (rows : List Row) → under [] rows ≡ rows
+under-nil [] = refl
+under-nil (row ∷ rows) = ap (λ (rs : List Row). row ∷ rs) (under-nil rows)
+
+pub common-front : (front p q : List ℕ) → common (front ++ p) (front ++ q) ≡ front ++ common p q
+unfolding common
+common-front [] p q = refl
+common-front (x ∷ front) p q = rw (same_nibble x) (ap (λ (r : List ℕ). x ∷ r) (common-front front p q))
+
+pub common_front-under : (front : List ℕ) (row : Row) (rows : List Row) → common_front (front ++ row.0, row.1) (under front rows) ≡ front ++ common_front row rows
+unfolding common_front
+common_front-under front row [] = refl
+common_front-under front row (next ∷ rows) = ap (common (front ++ row.0)) (common_front-under front next rows) ∙ common-front front row.0 (common_front next rows)
+
+-- the trie of rows with a front put before each
+pub tree_of-under : (front : List ℕ) (rows : List Row) → tree_of (under front rows) ≡ grown front (tree_of rows)
+unfolding grown
+tree_of-under [] rows = ap tree_of (under-nil rows)
+tree_of-under (x ∷ front) [] = tree_of-nil ∙ sym (ap (grown (x ∷ front)) tree_of-nil)
+tree_of-under (x ∷ front) (row ∷ []) = tree_of-one (x ∷ front ++ row.0, row.1) ∙ sym (ap (grown (x ∷ front)) (tree_of-one row))
+tree_of-under (x ∷ front) (row ∷ next ∷ rows) = go (common_front row (next ∷ rows)) refl
+  where
+    rs : List Row
+    rs = row ∷ next ∷ rows
+
+    raised : common_front (x ∷ front ++ row.0, row.1) (under (x ∷ front) (next ∷ rows)) ≡ x ∷ front ++ common_front row (next ∷ rows)
+    raised = common_front-under (x ∷ front) row (next ∷ rows)
+
+    go : (shared : List ℕ) → common_front row (next ∷ rows) ≡ shared → tree_of (under (x ∷ front) (row ∷ next ∷ rows)) ≡ grown (x ∷ front) (tree_of (row ∷ next ∷ rows))
+    go [] e =
+        tree_of-shares (x ∷ front ++ row.0, row.1) (x ∷ front ++ next.0, next.1) (under (x ∷ front) rows) x front (raised ∙ ap (λ (r : List ℕ). x ∷ front ++ r) e ∙ append-nil (x ∷ front))
+        ∙ ap (λ (r : List Row). extension (x ∷ front) (tree_of r)) (below-under (x ∷ front) rs)
+        ∙ ap (extension (x ∷ front)) (tree_of-forks row next rows e)
+        ∙ sym (ap (grown (x ∷ front)) (tree_of-forks row next rows e))
+    go (y ∷ more) e =
+        tree_of-shares (x ∷ front ++ row.0, row.1) (x ∷ front ++ next.0, next.1) (under (x ∷ front) rows) x (front ++ y ∷ more) (raised ∙ ap (λ (r : List ℕ). x ∷ front ++ r) e)
+        ∙ ap (λ (r : List Row). extension (x ∷ front ++ y ∷ more) (tree_of r)) (below-append (x ∷ front) (y ∷ more) (under (x ∷ front) rs) ∙ ap (below (y ∷ more)) (below-under (x ∷ front) rs))
+        ∙ sym (ap (grown (x ∷ front)) (tree_of-shares row next rows y more e))
+
+-- The trie of rows that all have a front is that of the rows below it, grown by it.
+pub tree_of-front : (front : List ℕ) (rows : List Row) → AllHaveFront front rows → tree_of rows ≡ grown front (tree_of (below front rows))
+tree_of-front front rows h = ap tree_of (sym (under-below front rows h)) ∙ tree_of-under front (below front rows)
+
+-- ---- rows by nibbles
+
+pub below-under_other : (x y : ℕ) (rows : List Row) → x ≢ y → below (x ∷ []) (under (y ∷ []) rows) ≡ []
+unfolding below rest_behind
+below-under_other x y [] apart = refl
+below-under_other x y (row ∷ rows) apart =
+    let test : (x == y) ≡ false = grind (arith, nat_tests) in
+    rw test (below-under_other x y rows apart)
+
+ends_here-append : (rows others : List Row) → ends_here rows ≡ None → ends_here (rows ++ others) ≡ ends_here others
+unfolding ends_here
+ends_here-append [] others e = refl
+ends_here-append (([], value) ∷ rows) others e = cc
+ends_here-append ((x ∷ path, value) ∷ rows) others e = ends_here-append rows others e
+
+ends_here-under : (x : ℕ) (rows : List Row) → ends_here (under (x ∷ []) rows) ≡ None
+unfolding ends_here
+ends_here-under x [] = refl
+ends_here-under x (row ∷ rows) = ends_here-under x rows
+
+module _ (kids : ℕ → List Row) where
+  -- the rows of each nibble below n, in order
+  abbrev pub spread : ℕ → List Row
+  spread n = joined_below (λ x. under (x ∷ []) (kids x)) n
+
+  pub ends_here-spread : (n : ℕ) → ends_here (spread n) ≡ None
+  unfolding joined_below ends_here
+  ends_here-spread zero = refl
+  ends_here-spread (suc n) = ends_here-append (spread n) (under (n ∷ []) (kids n)) (ends_here-spread n) ∙ ends_here-under n (kids n)
+
+  pub below-spread_past : (x n : ℕ) → n ≤ x → below (x ∷ []) (spread n) ≡ []
+  unfolding joined_below below
+  below-spread_past x zero h = refl
+  below-spread_past x (suc n) h =
+      below-rows_append (x ∷ []) (spread n) (under (n ∷ []) (kids n))
+      ∙ ap₂ (λ (a b : List Row). a ++ b) (below-spread_past x n (omega arith)) (below-under_other x n (kids n) (omega arith))
+
+  pub below-spread : (x n : ℕ) → x < n → below (x ∷ []) (spread n) ≡ kids x
+  unfolding joined_below
+  below-spread x zero h = absurd (omega arith)
+  below-spread x (suc n) h =
+      below-rows_append (x ∷ []) (spread n) (under (n ∷ []) (kids n))
+      ∙ elim (cases_lt x n) [
+        | inl l ↦ ap₂ (λ (a b : List Row). a ++ b) (below-spread x n l) (below-under_other x n (kids n) (omega arith)) ∙ append-nil (kids x)
+        | inr r ↦
+            let same : n ≡ x = omega arith in
+            ap (λ (a : List Row). a ++ below (x ∷ []) (under (n ∷ []) (kids n))) (below-spread_past x n r)
+            ∙ subst (λ y. below (y ∷ []) (under (n ∷ []) (kids n)) ≡ kids y) same (below-under (n ∷ []) (kids n))
+      ]
+
+  -- below a nibble of rows that are spread, and the one that ends among them
+  pub below-here_spread : (value : Option (List ℕ)) (x : ℕ) → x < 16 → below (x ∷ []) (here value ++ spread 16) ≡ kids x
+  unfolding below rest_behind
+  below-here_spread None x h = below-spread x 16 h
+  below-here_spread (Some value) x h = below-spread x 16 h
+
+  pub below-here_spread_past : (value : Option (List ℕ)) (x : ℕ) → 16 ≤ x → below (x ∷ []) (here value ++ spread 16) ≡ []
+  unfolding below rest_behind
+  below-here_spread_past None x h = below-spread_past x 16 h
+  below-here_spread_past (Some value) x h = below-spread_past x 16 h
+
+  pub ends_here-here_spread : (value : Option (List ℕ)) → ends_here (here value ++ spread 16) ≡ value
+  unfolding ends_here
+  ends_here-here_spread None = ends_here-spread 16
+  ends_here-here_spread (Some value) = refl
+
+-- ---- the common front of rising rows
+
+-- the last of some rows
+abbrev pub last_row : Row → List Row → Row
+last_row row [] = row
+last_row row (next ∷ rows) = last_row next rows
+
+-- a path stands before another, or is the same
+abbrev pub NotAfter : List ℕ → List ℕ → Type 0
+NotAfter p q = slice_cmp nat_cmp p q ≢ Greater
+
+pub common-itself : (p : List ℕ) → common p p ≡ p
+unfolding common
+common-itself [] = refl
+common-itself (x ∷ p) = rw (same_nibble x) (ap (λ (r : List ℕ). x ∷ r) (common-itself p))
+
+slice_cmp-itself : (p : List ℕ) → slice_cmp nat_cmp p p ≡ Equal
+slice_cmp-itself [] = refl
+slice_cmp-itself (x ∷ p) = ap (λ o. ordering_then o (slice_cmp nat_cmp p p)) (nat_cmp-itself x) ∙ slice_cmp-itself p
+
+not_after_before : (p q : List ℕ) → Before p q → NotAfter p q
+not_after_before p q h e = different (sym h ∙ e)
+  where
+    different : Less ≡ Greater → ⊥
+    different e = cc
+
+first_not_after : (x y : ℕ) (p q : List ℕ) → NotAfter (x ∷ p) (y ∷ q) → x ≤ y
+first_not_after x y p q h =
+    elim (cases_lt y x) [
+      | inl l ↦ absurd (h (ap (λ o. ordering_then o (slice_cmp nat_cmp p q)) (nat_cmp-greater x y l)))
+      | inr le ↦ le
+    ]
+
+rest_not_after : (x y : ℕ) (p q : List ℕ) → x ≡ y → NotAfter (x ∷ p) (y ∷ q) → NotAfter p q
+rest_not_after x y p q same h e = h (ap (λ (z : ℕ). ordering_then (nat_cmp x z) (slice_cmp nat_cmp p q)) (sym same) ∙ ap (λ o. ordering_then o (slice_cmp nat_cmp p q)) (nat_cmp-itself x) ∙ e)
+
+-- a path between two others has the front that they share
+pub common-between : (p q r : List ℕ) → NotAfter p q → NotAfter q r → common p (common q r) ≡ common p r
+unfolding common
+common-between [] q r h k = refl
+common-between (x ∷ p) [] r h k = absurd (h refl)
+common-between (x ∷ p) (y ∷ q) [] h k = absurd (k refl)
+common-between (x ∷ p) (y ∷ q) (z ∷ r) h k =
+    let low = first_not_after x y p q h in
+    let high = first_not_after y z q r k in
+    elim (cases_eq y z) [
+      | inl same ↦
+          let second : (y == z) ≡ true = grind (arith, nat_tests) in
+          rw second (elim (cases_eq x y) [
+            | inl alike ↦
+                let first : (x == y) ≡ true = grind (arith, nat_tests) in
+                let outer : (x == z) ≡ true = grind (arith, nat_tests) in
+                rw (first, outer) (ap (λ (s : List ℕ). x ∷ s) (common-between p q r (rest_not_after x y p q alike h) (rest_not_after y z q r same k)))
+            | inr apart ↦
+                let first : (x == y) ≡ false = grind (arith, nat_tests) in
+                let outer : (x == z) ≡ false = grind (arith, nat_tests) in
+                rw (first, outer) refl
+          ])
+      | inr apart ↦
+          let second : (y == z) ≡ false = grind (arith, nat_tests) in
+          let outer : (x == z) ≡ false = grind (arith, nat_tests) in
+          rw (second, outer) refl
+    ]
+
+not_after_itself : (p : List ℕ) → NotAfter p p
+not_after_itself p e = different (sym (slice_cmp-itself p) ∙ e)
+  where
+    different : Equal ≡ Greater → ⊥
+    different e = cc
+
+all_last : (P : Row → Type 0) (row : Row) (rows : List Row) → AllByRecursion P (row ∷ rows) → P (last_row row rows)
+all_last P row [] h = h.0
+all_last P row (next ∷ rows) h = all_last P next rows h.1
+
+not_after_last : (row : Row) (rows : List Row) → RisingRows (row ∷ rows) → NotAfter row.0 (last_row row rows).0
+not_after_last row [] h = not_after_itself row.0
+not_after_last row (next ∷ rows) h = not_after_before row.0 (last_row next rows).0 (all_last (λ later. Before row.0 later.0) next rows h.0)
+
+-- The common front of rising rows is that of the first and the last.
+pub common_front-rising : (row : Row) (rows : List Row) → RisingRows (row ∷ rows) → common_front row rows ≡ common row.0 (last_row row rows).0
+unfolding common_front
+common_front-rising row [] h = sym (common-itself row.0)
+common_front-rising row (next ∷ rows) h =
+    ap (common row.0) (common_front-rising next rows h.1)
+    ∙ common-between row.0 next.0 (last_row next rows).0 (not_after_before row.0 next.0 h.0.0) (not_after_last next rows h.1)
+
+-- ---- rows that fork
+
+pub common_front-ends : (row : Row) (rows : List Row) → row.0 ≡ [] → common_front row rows ≡ []
+unfolding common_front common
+common_front-ends row [] e = e
+common_front-ends row (next ∷ rows) e = ap (λ (p : List ℕ). common p (common_front next rows)) e
+
+pub common_front-differs : (row : Row) (rows : List Row) (x y : ℕ) (p q : List ℕ) → RisingRows (row ∷ rows) → row.0 ≡ x ∷ p → (last_row row rows).0 ≡ y ∷ q → x ≢ y → common_front row rows ≡ []
+unfolding common
+common_front-differs row rows x y p q rising first last apart =
+    let test : (x == y) ≡ false = grind (arith, nat_tests) in
+    common_front-rising row rows rising ∙ ap₂ common first last ∙ ap (λ b. if b then x ∷ common p q else []) test
+
+-- The trie of rows that fork, from those of their nibbles.
+pub tree_of-spread : (kids : ℕ → List Row) (value : Option (List ℕ)) (row next : Row) (rows : List Row) → ((x : ℕ) → 16 ≤ x → kids x ≡ []) → here value ++ spread kids 16 ≡ row ∷ next ∷ rows → common_front row (next ∷ rows) ≡ [] → tree_of (here value ++ spread kids 16) ≡ branch value (λ x. tree_of (kids x))
+tree_of-spread kids value row next rows none same forks =
+    ap tree_of same
+    ∙ tree_of-forks row next rows forks
+    ∙ ap (λ rs. branch (ends_here rs) (λ x. tree_of (below (x ∷ []) rs))) (sym same)
+    ∙ ap₂ branch (ends_here-here_spread kids value) (fun_ext (λ x. ap tree_of (each x (cases_lt x 16))))
+  where
+    each : (x : ℕ) → (x < 16) ⊎ (16 ≤ x) → below (x ∷ []) (here value ++ spread kids 16) ≡ kids x
+    each x (inl l) = below-here_spread kids value x l
+    each x (inr r) = below-here_spread_past kids value x r ∙ sym (none x r)
