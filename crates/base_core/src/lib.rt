@@ -19,3 +19,6 @@ pub use pairs::Pairs;
 pub use put_error::PutError;
 pub use text::Text;
 pub use writer::Writer;
+
+#[cfg(test)]
+mod tests;

@@ -124,7 +124,7 @@ weight-kids n (([], value) ∷ rows) =
 weight-kids n ((y ∷ path, value) ∷ rows) =
     let here = only_at y (suc (length path)) in
     let h = sum_below-agree (λ x. weight (below (x ∷ []) ((y ∷ path, value) ∷ rows))) (λ x. here x + weight (below (x ∷ []) rows)) n (λ x _. weight-kid x y path value rows)
-        ∙ sum_below-add here (λ x. weight (below (x ∷ []) rows)) n in
+    ∙ sum_below-add here (λ x. weight (below (x ∷ []) rows)) n in
     let one = sum_below-only y (suc (length path)) n in
     let k = weight-kids n rows in
     let w = weight-cons (y ∷ path, value) rows in
@@ -221,11 +221,11 @@ bounded-shares row next rows x front e further fit =
 
 pub usage-bounded : (rows : List Row) → AllFit rows → usage (tree_of rows) ≤ share * weight rows
 usage-bounded = by_cases Bounded (record {
-      none = λ fit. let is = ap usage tree_of-nil ∙ usage-nothing in omega arith;
-      one = bounded-one;
-      forks = bounded-forks;
-      shares = bounded-shares
-    })
+  none = λ fit. let is = ap usage tree_of-nil ∙ usage-nothing in omega arith;
+  one = bounded-one;
+  forks = bounded-forks;
+  shares = bounded-shares;
+})
 
 weight-bounded : (rows : List Row) → AllFit rows → weight rows ≤ 4229 * length rows
 unfolding weight

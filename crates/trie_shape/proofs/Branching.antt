@@ -19,6 +19,7 @@ use Rattle.trie_model.proofs.Joined.{sum_below-agree}
 use Rattle.trie_model.proofs.Trees.{tree_of-forks}
 use Rattle.node_codec.specs.Shown.{kids_of, value_of}
 use Rattle.trie_shape.specs.declared.closed.Closed.{Closed}
+use Rattle.trie_shape.specs.declared.sub.Sub.{Sub}
 use Rattle.trie_shape.specs.declared.sub.Sub.TheVariants.{Branch}
 use Rattle.trie_shape.specs.Runs.{Rises, StartsFrom, AllFrom, goes_on, run_of, tails, front_of}
 use Rattle.trie_shape.specs.Seen.{Lent, row_at, seen, IsRowAt, AreRowsAt, IsLeft}
@@ -87,9 +88,9 @@ module _ (x depth : ℕ) (whole rest : List Lent) (left : IsLeft x depth whole r
   run_rows : AreRowsAt (depth + 1) (take run rest)
   unfolding run
   run_rows = record {
-      rises = subst Rises (ap tails (sym (seen-take depth run rest)) ∙ tails-seen depth (take run rest)) (rises-run x (seen depth rest) left.rows.rises);
-      each = AllByRecursion-take (IsRowAt (depth + 1)) run rest (deeper depth x rest left.from left.rows.each);
-    }
+    rises = subst Rises (ap tails (sym (seen-take depth run rest)) ∙ tails-seen depth (take run rest)) (rises-run x (seen depth rest) left.rows.rises);
+    each = AllByRecursion-take (IsRowAt (depth + 1)) run rest (deeper depth x rest left.from left.rows.each);
+  }
 
   run_left : IsLeft (x + 1) depth whole (drop run rest)
   unfolding run
@@ -156,7 +157,7 @@ module _ (depth : ℕ) (whole rest : List Lent) (x : ℕ) (kids : List (Option D
         named = λ y h. elim (cases_lt y x) [
           | inl l ↦ (let other : y ≢ x = omega arith in ap (option_map (λ d. d.0)) (get_or-set_other kids x y name None other) ∙ so_far.named y l)
           | inr g ↦ (let same : x ≡ y = omega arith in
-            subst (λ k. kids_of (set kids x name) k ≡ tree_kids (seen depth whole) k) same (ap (option_map (λ d. d.0)) (get_or-set_same kids x name None inside) ∙ here.digest))
+              subst (λ k. kids_of (set kids x name) k ≡ tree_kids (seen depth whole) k) same (ap (option_map (λ d. d.0)) (get_or-set_same kids x name None inside) ∙ here.digest))
         ];
         used = ap₂ (λ (a b : ℕ). a + b) so_far.used here.usage ∙ sym (sum_below-suc (used_at (seen depth whole)) x);
       }
@@ -223,10 +224,9 @@ module _ (depth : ℕ) (whole rest : List Lent) (kids : List (Option Digest)) (k
       let same = same_count in
       shape_by value (ends_here rows) e (ends_here-fits rows (all-fit depth whole are.each)) (omega arith)
 
-pub branch-shown : (rows : List Row) (digest : Digest) (used : ℕ) (closed : Closed) → closed.digest ≡ digest → closed.usage ≡ used → front_of rows ≡ [] → 2 ≤ length rows → IsTop closed (branch (ends_here rows) (λ x. tree_of (below (x ∷ []) rows))) → Shows (Branch digest used) (tree_of rows)
-branch-shown rows digest used closed d u forks two top =
-    subst (Shows (Branch digest used)) (sym (tree-forks rows forks two))
-      (ap (λ (e : Digest). e.0) (sym d) ∙ top.digest ∙ ap sha256 top.text, sym u ∙ top.usage)
+-- a branch whose record is written
+pub branch-shown : (closed : Closed) (v : Option (List ℕ)) (trees : ℕ → Tree) → IsTop closed (branch v trees) → Shows (Branch closed.digest closed.usage) (branch v trees)
+branch-shown closed v trees top = (top.digest ∙ ap sha256 top.text, top.usage)
 
 -- ---- a turn of the loop, where the rows were split behind the run
 
@@ -259,7 +259,7 @@ module _ (depth : ℕ) (whole rest : List Lent) (x : ℕ) (kids : List (Option D
   turn-more small name named =
       let here = subst (λ (rs : List Lent). IsName name (tree_of (seen (depth + 1) rs))) front_here named in
       subst (λ (rs : List Lent). IsGathered depth whole rs (x + 1) (set kids x name.0) (kids_usage + name.1)) (sym (back_is ∙ ap (λ k. drop k rest) is))
-        (gathered-more depth whole rest x kids kids_usage so_far name.0 name.1 small here)
+      (gathered-more depth whole rest x kids kids_usage so_far name.0 name.1 small here)
 
 -- ---- after the last turn
 
@@ -277,12 +277,12 @@ module _ (depth : ℕ) (whole rest : List Lent) (x : ℕ) (kids : List (Option D
   two_seen : 2 ≤ length (seen depth whole)
   two_seen = let long = length-seen depth whole in omega arith
 
-  pub end-shown : (value : Option ValueOfRecord) → value ≡ option_map value_ref (ends_here (seen depth whole)) → (closed : Closed)
-      → ((v : Option (List ℕ)) (trees : ℕ → Tree) → value ≡ option_map value_ref v → ((y : ℕ) → y < 16 → kids_of kids y ≡ name_of (trees y) (text (trees y))) → kids_usage ≡ sum_below (λ y. usage (trees y)) 16 → IsTop closed (branch v trees))
-      → Shows (Branch closed.digest closed.usage) (tree_of (seen depth whole))
-  end-shown value e closed top =
-      branch-shown (seen depth whole) closed.digest closed.usage closed refl refl forks two_seen
-        (top (ends_here (seen depth whole)) (λ y. tree_of (below (y ∷ []) (seen depth whole))) e each_named whole_sum)
+  pub end-shown : (value : Option ValueOfRecord) → value ≡ option_map value_ref (ends_here (seen depth whole)) → (sub : Sub)
+      → ((v : Option (List ℕ)) (trees : ℕ → Tree) → value ≡ option_map value_ref v → ((y : ℕ) → y < 16 → kids_of kids y ≡ name_of (trees y) (text (trees y))) → kids_usage ≡ sum_below (λ y. usage (trees y)) 16 → Shows sub (branch v trees))
+      → Shows sub (tree_of (seen depth whole))
+  end-shown value e sub shows =
+      subst (Shows sub) (sym (tree-forks (seen depth whole) forks two_seen))
+        (shows (ends_here (seen depth whole)) (λ y. tree_of (below (y ∷ []) (seen depth whole))) e each_named whole_sum)
 
   pub end-fits : (value : Option ValueOfRecord) → value ≡ option_map value_ref (ends_here (seen depth whole)) → usage (tree_of (seen depth whole)) < 2 ^ 64 → own_cost (node.branch value (kids_of kids)) + kids_usage < 2 ^ 64
   end-fits value e fits =

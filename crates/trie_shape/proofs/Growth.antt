@@ -30,8 +30,10 @@ tree_of-under front (row ∷ next ∷ rows) = go front (common_front row (next �
   where
     all : List Row
     all = row ∷ next ∷ rows
+
     shared : (f : List ℕ) → common_front (f ++ row.0, row.1) (under f (next ∷ rows)) ≡ f ++ common_front row (next ∷ rows)
     shared f = common_front-under f row (next ∷ rows)
+
     go : (f c : List ℕ) → common_front row (next ∷ rows) ≡ c → tree_of (under f all) ≡ grown f (tree_of all)
     go [] [] e = ap tree_of (under-nil all) ∙ tree_of-forks row next rows e ∙ ap (grown []) (sym (tree_of-forks row next rows e))
     go (x ∷ f) [] e =

@@ -104,14 +104,19 @@ shaped (path, value) next rows rises small forks = go path (last_of next rows).0
   where
     all : List ℕ → List Row
     all p = (p, value) ∷ next ∷ rows
+
     above : IsBelow path (last_of next rows).0
     above = last-all (λ r. IsBelow path r.0) next rows rises.0
+
     shared : common path (last_of next rows).0 ≡ []
     shared = sym (common_front-rising (path, value) (next ∷ rows) rises) ∙ forks
+
     last_small : AreNibbles (last_of next rows).0
     last_small = last-all (λ r. AreNibbles r.0) next rows small.1
+
     kid : (y : ℕ) (q p : List ℕ) → (last_of next rows).0 ≡ y ∷ q → one_at (all p) y ≡ 1
     kid y q p e = one_of (all p) y (begins-last y q (p, value) (next ∷ rows) e)
+
     go : (p q : List ℕ) → path ≡ p → (last_of next rows).0 ≡ q → 2 ≤ kid_count (tree_kids (all path)) + ending (all path)
     go [] [] e f = absurd (subst (IsBelow path) f above)
     go (x ∷ p) [] e f = absurd (subst (IsBelow path) f above)

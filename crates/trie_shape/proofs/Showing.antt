@@ -66,7 +66,7 @@ is_top (Extension path child used) closed (leaf p v) written some h = absurd h
 is_top (Extension path child used) closed (branch v kids) written some h = absurd h
 is_top (Extension path child used) closed (extension p t) written some h =
     subst (λ (q : List ℕ). IsTop closed (extension q t)) h.0
-      (extension_top closed (usage_of (Extension path child used)) path t child.0 h.1 (ap (λ (u : ℕ). own_cost (node.extension path child.0) + u) h.2) written)
+    (extension_top closed (usage_of (Extension path child used)) path t child.0 h.1 (ap (λ (u : ℕ). own_cost (node.extension path child.0) + u) h.2) written)
 
 -- ---- the record of a branch
 
@@ -74,8 +74,8 @@ spelled_kids-agree : (kids others : ℕ → Option (List ℕ)) → ((x : ℕ) �
 unfolding spelled_kids
 spelled_kids-agree kids others same =
     ap₂ (λ (bits : ℕ) (digests : List ℕ). borsh_u16 bits ++ digests)
-      (sum_below-agree (child_bit kids) (child_bit others) 16 (λ x h. ap (λ (kid : Option (List ℕ)). if is_some kid then 2 ^ x else 0) (same x h)))
-      (joined_below-agree (λ x. child_digest (kids x)) (λ x. child_digest (others x)) 16 (λ x h. ap child_digest (same x h)))
+    (sum_below-agree (child_bit kids) (child_bit others) 16 (λ x h. ap (λ (kid : Option (List ℕ)). if is_some kid then 2 ^ x else 0) (same x h)))
+    (joined_below-agree (λ x. child_digest (kids x)) (λ x. child_digest (others x)) 16 (λ x h. ap child_digest (same x h)))
 
 spelled-branch : (value : Option ValueOfRecord) (kids others : ℕ → Option (List ℕ)) (used : ℕ) → ((x : ℕ) → x < 16 → kids x ≡ others x) → spelled (node.branch value kids) used ≡ spelled (node.branch value others) used
 unfolding spelled

@@ -19,9 +19,9 @@ order = slice_cmp nat_cmp
 
 less_nibbles : (x y : ℕ) (p q : List ℕ) → x < y → IsBelow (x / 16 ∷ x % 16 ∷ p) (y / 16 ∷ y % 16 ∷ q)
 less_nibbles x y p q h = elim (cases_lt (x / 16) (y / 16)) [
-    | inl l ↦ inl l
-    | inr g ↦ inr (omega arith, inl (omega arith))
-  ]
+  | inl l ↦ inl l
+  | inr g ↦ inr (omega arith, inl (omega arith))
+]
 
 below-nibbles : (a b : List ℕ) → T (is_lt (order a b)) → IsBelow (nibbles a) (nibbles b)
 unfolding nibbles

@@ -80,9 +80,9 @@ module _ (depth shared : ℕ) (rows : List Lent) (are : AreRowsAt depth rows) (i
 
   pub deeper-rows : AreRowsAt (depth + shared) rows
   deeper-rows = record {
-      rises = subst Rises deeper_is (rises-rest here are.rises);
-      each = subst (λ n. AllByRecursion (IsRowAt (depth + n)) rows) (sym is) (each-deeper depth (front_of here) rows (all-front here) are.each);
-    }
+    rises = subst Rises deeper_is (rises-rest here are.rises);
+    each = subst (λ n. AllByRecursion (IsRowAt (depth + n)) rows) (sym is) (each-deeper depth (front_of here) rows (all-front here) are.each);
+  }
 
   pub deeper-forks : front_of (seen (depth + shared) rows) ≡ []
   deeper-forks = ap front_of (sym deeper_is) ∙ rest-forks here
@@ -175,18 +175,18 @@ may_write : (sub : Sub) (tree : Tree) → Shows sub tree → TopFits tree → Ma
 unfolding usage
 may_write Empty nothing h fit = record { nibbles = tt; short = omega arith; shaped = no_node; used = refl }
 may_write (Leaf path value) (leaf p v) h fit = record {
-    nibbles = subst AreNibbles (sym h.0) fit.0;
-    short = subst (λ (q : List ℕ). length q ≤ longest_path) (sym h.0) fit.1;
-    shaped = λ made. one_node (node.leaf path (value_of value)) made (subst (λ (r : ValueOfRecord). r.size ≤ longest_value) (sym h.1) fit.2);
-    used = leaf_used path v (value_of value) h.1 ∙ ap (λ (q : List ℕ). usage (leaf q v)) h.0;
-  }
+  nibbles = subst AreNibbles (sym h.0) fit.0;
+  short = subst (λ (q : List ℕ). length q ≤ longest_path) (sym h.0) fit.1;
+  shaped = λ made. one_node (node.leaf path (value_of value)) made (subst (λ (r : ValueOfRecord). r.size ≤ longest_value) (sym h.1) fit.2);
+  used = leaf_used path v (value_of value) h.1 ∙ ap (λ (q : List ℕ). usage (leaf q v)) h.0;
+}
 may_write (Branch digest used) (branch v kids) h fit = record { nibbles = tt; short = omega arith; shaped = no_node; used = h.1 }
 may_write (Extension path child used) (extension p t) h fit = record {
-    nibbles = subst AreNibbles (sym h.0) fit.0;
-    short = subst (λ (q : List ℕ). length q ≤ longest_path) (sym h.0) fit.1;
-    shaped = λ made. one_node (node.extension path child.0) made (λ e. fit.2 (sym h.0 ∙ e));
-    used = extension_used path child.0 t used h.2 ∙ ap (λ (q : List ℕ). usage (extension q t)) h.0;
-  }
+  nibbles = subst AreNibbles (sym h.0) fit.0;
+  short = subst (λ (q : List ℕ). length q ≤ longest_path) (sym h.0) fit.1;
+  shaped = λ made. one_node (node.extension path child.0) made (λ e. fit.2 (sym h.0 ∙ e));
+  used = extension_used path child.0 t used h.2 ∙ ap (λ (q : List ℕ). usage (extension q t)) h.0;
+}
 may_write Empty (leaf p v) h fit = absurd h
 may_write Empty (branch v kids) h fit = absurd h
 may_write Empty (extension p t) h fit = absurd h

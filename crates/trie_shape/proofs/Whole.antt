@@ -57,9 +57,9 @@ each-row (row ∷ rows) h =
 module _ (held : Held) (rows : List Lent) (is : IsHeld held) (e : lent rows ≡ entries held.state) where
   pub state-rows : AreRowsAt 0 rows
   state-rows = record {
-      rises = subst Rises (sym (seen-state held.state rows e)) (rises-rows_of held.state);
-      each = each-row rows (subst (AllByRecursion IsPair) (sym e) is.pairs);
-    }
+    rises = subst Rises (sym (seen-state held.state rows e)) (rises-rows_of held.state);
+    each = each-row rows (subst (AllByRecursion IsPair) (sym e) is.pairs);
+  }
 
   pub state-fits : usage (tree_of (seen 0 rows)) < 2 ^ 64
   state-fits =

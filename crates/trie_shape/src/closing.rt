@@ -46,11 +46,7 @@ pub fn close_branch(
     }
 }
 
-pub(crate) fn close_leaf(
-    alloc: Global,
-    path: &[u8],
-    value: &ValueRef,
-) -> Result<Closed, AllocError>
+pub(crate) fn close_leaf(alloc: Global, path: &[u8], value: &ValueRef) -> Result<Closed, AllocError>
     requires nibbles { AreNibbles path.now }
     requires short { length path.now ≤ longest_path }
     ensures written { IfOk result (λ closed. IsRecord closed (leaf path.now (value_of value.now)) (own_cost (leaf path.now (value_of value.now)))) }

@@ -15,3 +15,6 @@ pub use closed::Closed;
 pub use closing::close_branch;
 pub use rows::value_ref;
 pub use sub::Sub;
+
+#[cfg(test)]
+mod tests;

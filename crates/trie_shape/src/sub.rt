@@ -7,8 +7,8 @@ ghost use Rattle.trie_model.specs.Tree.{Tree};
 ghost use Rattle.trie_shape.specs.Grown.{grown};
 
 use crate::close_error::CloseError;
-use crate::closing::{close_extension, close_leaf};
 use crate::closed::Closed;
+use crate::closing::{close_extension, close_leaf};
 use base_core::{Digest, Text, Writer};
 use node_codec::ValueRef;
 use std::alloc::{AllocError, Global};

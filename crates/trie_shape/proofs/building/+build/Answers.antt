@@ -1,4 +1,4 @@
-use Rattle.std.proofs.Common.{◌≡◌, ◌+◌, ◌<◌, ◌≤◌, ◌^◌, List, length, take, drop, set, arith, ap, sym, subst, ◌∙◌, rules, option_map, Err}
+use Rattle.std.proofs.Common.{◌≡◌, ◌+◌, ◌<◌, ◌≤◌, ◌^◌, List, length, take, drop, set, arith, ap, sym, subst, ◌∙◌, rules, option_map, refl}
 use Rattle.byte_model.specs.PackedPath.{longest_path}
 use Rattle.byte_model.specs.Node.{IsShaped, own_cost}
 use Rattle.byte_model.specs.Node as node
@@ -15,7 +15,7 @@ use Rattle.std.proofs.lemmas.Result.{IfOk-weaker}
 use Rattle.trie_shape.proofs.building.+build.Goals as goal
 
 pub branch-loop-nibble-init : goal.branch-loop-nibble-init
-branch-loop-nibble-init t c = gathered-none c.args.depth c.args.rows.now c.ending-value.result.1.now c.in_ok-kids.kids.value c.ending-value.ensures.left (ap length c.in_ok-kids.ensures.ok)
+branch-loop-nibble-init t c = gathered-none c.args.depth c.args.rows.now c.ending-value.result.1.now c.in_ok-kids.kids.value c.ending-value.ensures.left c.in_ok-kids.ensures
 
 pub branch-split_at-requires : goal.branch-split_at-requires
 branch-split_at-requires t c =
@@ -26,61 +26,58 @@ branch-split_at-requires t c =
 
 pub branch-named-requires : goal.branch-named-requires
 branch-named-requires t c =
-    let deeper : c.args.depth + 1 ≤ longest_path + 1 = omega arith in
-    (search rules, (
-      turn-rows c.args.depth c.args.rows.now c.loop-nibble.rest.now c.loop-nibble.nibble c.loop-nibble.kids.value c.loop-nibble.kids_usage c.loop-nibble.invariant c.split_at.result.0.now c.split_at.result.1.now c.run_length.result c.run_length.ensures c.split_at.ensures.front c.split_at.ensures.back, (
-        deeper,
-        turn-fits c.args.depth c.args.rows.now c.loop-nibble.rest.now c.loop-nibble.nibble c.loop-nibble.kids.value c.loop-nibble.kids_usage c.loop-nibble.invariant c.split_at.result.0.now c.split_at.result.1.now c.run_length.result c.run_length.ensures c.split_at.ensures.front c.split_at.ensures.back
-          c.requires.forks c.requires.two c.loop-nibble-test.true c.requires.fits
-      )
-    ))
+    let deeper : c.args.depth + 1 ≤ longest_path + 1 = omega arith in (
+      search rules,
+      (
+        turn-rows c.args.depth c.args.rows.now c.loop-nibble.rest.now c.loop-nibble.nibble c.loop-nibble.kids.value c.loop-nibble.kids_usage c.loop-nibble.invariant c.split_at.result.0.now c.split_at.result.1.now c.run_length.result c.run_length.ensures c.split_at.ensures.front c.split_at.ensures.back,
+        (
+          deeper,
+          turn-fits c.args.depth c.args.rows.now c.loop-nibble.rest.now c.loop-nibble.nibble c.loop-nibble.kids.value c.loop-nibble.kids_usage c.loop-nibble.invariant c.split_at.result.0.now c.split_at.result.1.now c.run_length.result c.run_length.ensures c.split_at.ensures.front c.split_at.ensures.back
+              c.requires.forks c.requires.two c.loop-nibble-test.true c.requires.fits,
+        ),
+      ),
+    )
 
 pub branch-overflow_add-kids_usage : goal.branch-overflow_add-kids_usage
-branch-overflow_add-kids_usage t c = record { fits = turn-adds c.args.depth c.args.rows.now c.loop-nibble.rest.now c.loop-nibble.nibble c.loop-nibble.kids.value c.loop-nibble.kids_usage c.loop-nibble.invariant c.split_at.result.0.now c.split_at.result.1.now c.run_length.result c.run_length.ensures c.split_at.ensures.front c.split_at.ensures.back
-    c.requires.forks c.requires.two c.loop-nibble-test.true c.requires.fits (c.in_ok-name.name, c.in_ok-name.usage) c.in_ok-name.ensures }
+branch-overflow_add-kids_usage t c = record {
+  fits = turn-adds c.args.depth c.args.rows.now c.loop-nibble.rest.now c.loop-nibble.nibble c.loop-nibble.kids.value c.loop-nibble.kids_usage c.loop-nibble.invariant c.split_at.result.0.now c.split_at.result.1.now c.run_length.result c.run_length.ensures c.split_at.ensures.front c.split_at.ensures.back
+      c.requires.forks c.requires.two c.loop-nibble-test.true c.requires.fits (c.in_ok-name.name, c.in_ok-name.usage) c.in_ok-name.ensures;
+}
 
 pub branch-loop-nibble-preserved : goal.branch-loop-nibble-preserved
 branch-loop-nibble-preserved t c =
     let more = turn-more c.args.depth c.args.rows.now c.loop-nibble.rest.now c.loop-nibble.nibble c.loop-nibble.kids.value c.loop-nibble.kids_usage c.loop-nibble.invariant c.split_at.result.0.now c.split_at.result.1.now c.run_length.result c.run_length.ensures c.split_at.ensures.front c.split_at.ensures.back
-        c.loop-nibble-test.true (c.in_ok-name.name, c.in_ok-name.usage) c.in_ok-name.ensures in
+    c.loop-nibble-test.true (c.in_ok-name.name, c.in_ok-name.usage) c.in_ok-name.ensures in
     let kids = c.set.ensures.value ∙ ap (λ kids. set kids c.loop-nibble.nibble c.in_ok-name.name) c.deref_mut.ensures.value in
     subst (λ kids. IsGathered c.args.depth c.args.rows.now c.split_at.result.1.now (c.loop-nibble.nibble + 1) kids (c.loop-nibble.kids_usage + c.in_ok-name.usage)) (sym kids) more
 
-pub branch-close_branch-requires : goal.branch-close_branch-requires
-branch-close_branch-requires t c =
+pub branch-fork_of-requires : goal.branch-fork_of-requires
+branch-fork_of-requires t c =
     let done : c.loop-nibble.nibble ≡ 16 = omega arith in
-    subst (λ kids. IsShaped (node.branch (option_map value_of c.ending-value.result.0) (kids_of kids))) (sym c.deref.ensures)
-      (end-shaped c.args.depth c.args.rows.now c.loop-nibble.rest.now c.loop-nibble.nibble c.loop-nibble.kids.value c.loop-nibble.kids_usage done c.loop-nibble.invariant c.requires.forks c.requires.two c.requires.rows _ c.ending-value.ensures.value)
+    let value = option_map value_of c.ending-value.result.0 in
+    let shaped = end-shaped c.args.depth c.args.rows.now c.loop-nibble.rest.now c.loop-nibble.nibble c.loop-nibble.kids.value c.loop-nibble.kids_usage done c.loop-nibble.invariant c.requires.forks c.requires.two c.requires.rows value c.ending-value.ensures.value in
+    let fits = end-fits c.args.depth c.args.rows.now c.loop-nibble.rest.now c.loop-nibble.nibble c.loop-nibble.kids.value c.loop-nibble.kids_usage done c.loop-nibble.invariant c.requires.forks c.requires.two value c.ending-value.ensures.value c.requires.fits in
+    record {
+      shaped = subst (λ kids. IsShaped (node.branch value (kids_of kids))) (sym c.deref.ensures) shaped;
+      fits = subst (λ kids. own_cost (node.branch value (kids_of kids)) + c.loop-nibble.kids_usage < 2 ^ 64) (sym c.deref.ensures) fits;
+    }
 
-pub branch-returns-in-Ok : goal.branch-returns-in-Ok
-branch-returns-in-Ok t c =
+pub branch-returns : goal.branch-returns
+branch-returns t c =
     let done : c.loop-nibble.nibble ≡ 16 = omega arith in
-    end-shown c.args.depth c.args.rows.now c.loop-nibble.rest.now c.loop-nibble.nibble c.loop-nibble.kids.value c.loop-nibble.kids_usage done c.loop-nibble.invariant c.requires.forks c.requires.two (option_map value_of c.ending-value.result.0) c.ending-value.ensures.value c.in-Ok.closed
-      (λ v trees e named used. c.in-Ok.ensures.shows v trees e (λ y h. ap (λ kids. kids_of kids y) c.deref.ensures ∙ named y h) used)
+    IfOk-weaker c.fork_of.result _ _ (λ sub shows.
+      end-shown c.args.depth c.args.rows.now c.loop-nibble.rest.now c.loop-nibble.nibble c.loop-nibble.kids.value c.loop-nibble.kids_usage done c.loop-nibble.invariant c.requires.forks c.requires.two (option_map value_of c.ending-value.result.0) c.ending-value.ensures.value sub
+        (λ v trees e named used. shows v trees e (λ y h. ap (λ kids. kids_of kids y) c.deref.ensures ∙ named y h) used)) c.fork_of.ensures
 
-pub branch-unreachable-requires : goal.branch-unreachable-requires
-branch-unreachable-requires t c =
-    let done : c.loop-nibble.nibble ≡ 16 = omega arith in
-    let fits = end-fits c.args.depth c.args.rows.now c.loop-nibble.rest.now c.loop-nibble.nibble c.loop-nibble.kids.value c.loop-nibble.kids_usage done c.loop-nibble.invariant c.requires.forks c.requires.two (option_map value_of c.ending-value.result.0) c.ending-value.ensures.value c.requires.fits in
-    let here = subst (λ kids. own_cost (node.branch (option_map value_of c.ending-value.result.0) (kids_of kids)) + c.loop-nibble.kids_usage < 2 ^ 64) (sym c.deref.ensures) fits in
-    let past = c.close_branch.ensures.usage.0 (c.in-Err-Usage.is ∙ ap Err c.in-Err-Usage.field-0-is) in
-    absurd (omega arith)
-
-pub named-name-requires-clause-nibbles : goal.named-name-requires-clause-nibbles
-named-name-requires-clause-nibbles t c = (shown_may_write c.args.depth c.args.rows.now c.in_ok-subtree.field-0 c.requires.rows c.in_ok-subtree.ensures).nibbles
-
-pub named-name-requires-clause-short : goal.named-name-requires-clause-short
-named-name-requires-clause-short t c = (shown_may_write c.args.depth c.args.rows.now c.in_ok-subtree.field-0 c.requires.rows c.in_ok-subtree.ensures).short
-
-pub named-name-requires-clause-shaped : goal.named-name-requires-clause-shaped
-named-name-requires-clause-shaped t c = (shown_may_write c.args.depth c.args.rows.now c.in_ok-subtree.field-0 c.requires.rows c.in_ok-subtree.ensures).shaped
-
-pub named-unreachable-requires : goal.named-unreachable-requires
-named-unreachable-requires t c =
-    let same = (shown_may_write c.args.depth c.args.rows.now c.in_ok-subtree.field-0 c.requires.rows c.in_ok-subtree.ensures).used in
-    let past = c.name.ensures.usage.0 (c.in-Err-Usage.is ∙ ap Err c.in-Err-Usage.field-0-is) in
+pub named-name_of-requires : goal.named-name_of-requires
+named-name_of-requires t c =
+    let may = shown_may_write c.args.depth c.args.rows.now c.in_ok-sub.sub c.requires.rows c.in_ok-sub.ensures in
+    let same = may.used in
     let fits = c.requires.fits in
-    absurd (omega arith)
+    record { nibbles = may.nibbles; short = may.short; shaped = may.shaped; fits = omega arith }
+
+pub named-returns : goal.named-returns
+named-returns t c = IfOk-weaker c.name_of.result _ _ (λ name is. is _ c.in_ok-sub.ensures) c.name_of.ensures
 
 pub subtree-returns-in-empty : goal.subtree-returns-in-empty
 subtree-returns-in-empty t c = let none : length c.args.rows.now ≡ 0 = omega arith in empty-shown c.args.depth c.args.rows.now none
@@ -100,29 +97,33 @@ subtree-branch-alloc-requires t c =
     let two = c.in-len2-up.len_at_least in
     let some : 1 ≤ length c.args.rows.now = omega arith in
     let shared = c.shared_length-shared.ensures ∙ shared-front c.args.depth c.args.rows.now _ some c.requires.rows in
-    let short = deeper-short c.args.depth c.shared_length-shared.result c.args.rows.now c.requires.rows shared some in
-    (search rules, (
-      deeper-rows c.args.depth c.shared_length-shared.result c.args.rows.now c.requires.rows shared, (
-        short, (
-          two, (
-            deeper-forks c.args.depth c.shared_length-shared.result c.args.rows.now c.requires.rows shared,
-            deeper-fits c.args.depth c.shared_length-shared.result c.args.rows.now c.requires.rows shared two c.requires.fits
-          )
-        )
-      )
-    ))
+    let short = deeper-short c.args.depth c.shared_length-shared.result c.args.rows.now c.requires.rows shared some in (
+      search rules,
+      (
+        deeper-rows c.args.depth c.shared_length-shared.result c.args.rows.now c.requires.rows shared,
+        (
+          short,
+          (
+            two,
+            (
+              deeper-forks c.args.depth c.shared_length-shared.result c.args.rows.now c.requires.rows shared,
+              deeper-fits c.args.depth c.shared_length-shared.result c.args.rows.now c.requires.rows shared two c.requires.fits,
+            ),
+          ),
+        ),
+      ),
+    )
 
-pub subtree-nibbles_of-requires : goal.subtree-nibbles_of-requires
-subtree-nibbles_of-requires t c =
+pub subtree-under_nibbles-requires : goal.subtree-under_nibbles-requires
+subtree-under_nibbles-requires t c =
     let two = c.in-len2-up.len_at_least in
     let some : 1 ≤ length c.args.rows.now = omega arith in
     let shared = c.shared_length-shared.ensures ∙ shared-front c.args.depth c.args.rows.now _ some c.requires.rows in
     deep-first c.args.depth c.shared_length-shared.result c.args.rows.now c.requires.rows shared _ some
 
-pub subtree-returns-in_ok-front-in-len2-up : goal.subtree-returns-in_ok-front-in-len2-up
-subtree-returns-in_ok-front-in-len2-up t c =
+pub subtree-returns-in_ok-fork-in-len2-up : goal.subtree-returns-in_ok-fork-in-len2-up
+subtree-returns-in_ok-fork-in-len2-up t c =
     let two = c.in-len2-up.len_at_least in
     let some : 1 ≤ length c.args.rows.now = omega arith in
     let shared = c.shared_length-shared.ensures ∙ shared-front c.args.depth c.args.rows.now _ some c.requires.rows in
-    let front = c.as_slice.ensures ∙ c.in_ok-front-in-len2-up.ensures in
-    IfOk-weaker c.under.result _ _ (λ sub grows. several-shown c.args.depth c.shared_length-shared.result c.args.rows.now c.requires.rows shared _ sub _ some front (grows _ c.in_ok-fork-in-len2-up.ensures)) c.under.ensures.shows
+    IfOk-weaker c.under_nibbles.result _ _ (λ sub grows. several-shown c.args.depth c.shared_length-shared.result c.args.rows.now c.requires.rows shared _ sub _ some refl (grows _ c.in_ok-fork-in-len2-up.ensures)) c.under_nibbles.ensures

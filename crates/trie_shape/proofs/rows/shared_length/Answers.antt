@@ -10,4 +10,4 @@ returns c =
     let first = c.rest-path.ensures ∙ ap (drop c.args.depth) c.new.ensures in
     let last = c.rest.ensures ∙ ap (drop c.args.depth) c.new-2.ensures in
     sym (ap (λ (p : List ℕ). length (common p (drop c.args.depth (nibbles c.args.last.now)))) (sym first) ∙ ap (λ (q : List ℕ). length (common c.rest-path.result q)) (sym last)
-        ∙ length-common _ _ c.common.result c.common.ensures.in_first c.common.ensures.in_second c.common.ensures.shared c.common.ensures.longest)
+    ∙ length-common _ _ c.common.result c.common.ensures.in_first c.common.ensures.in_second c.common.ensures.shared c.common.ensures.longest)
