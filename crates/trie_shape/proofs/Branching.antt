@@ -282,7 +282,7 @@ module _ (depth : ℕ) (whole rest : List Lent) (x : ℕ) (kids : List (Option D
       → Shows sub (tree_of (seen depth whole))
   end-shown value e sub shows =
       subst (Shows sub) (sym (tree-forks (seen depth whole) forks two_seen))
-        (shows (ends_here (seen depth whole)) (λ y. tree_of (below (y ∷ []) (seen depth whole))) e each_named whole_sum)
+      (shows (ends_here (seen depth whole)) (λ y. tree_of (below (y ∷ []) (seen depth whole))) e each_named whole_sum)
 
   pub end-fits : (value : Option ValueOfRecord) → value ≡ option_map value_ref (ends_here (seen depth whole)) → usage (tree_of (seen depth whole)) < 2 ^ 64 → own_cost (node.branch value (kids_of kids)) + kids_usage < 2 ^ 64
   end-fits value e fits =

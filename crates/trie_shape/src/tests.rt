@@ -1,7 +1,7 @@
 use super::*;
 use base_core::{Digest, Pairs, PutError, Text};
 use node_codec::Kids;
-use std::alloc::{AllocError, Global};
+use std::alloc::Global;
 use std::test::Fail;
 
 type Pair<'a> = (&'a [u8], &'a [u8]);
@@ -116,37 +116,35 @@ fn nested_keys(rt: HostRuntime) -> Result<(), Fail> {
     Ok(())
 }
 
-fn leaf(alloc: Global, path: &[u8], value: &[u8; 1]) -> Result<Sub, AllocError> {
-    Ok(Sub::Leaf {
-        path: Text::copy(alloc, path)?,
-        value: value_ref(value),
-    })
+/// The name and usage of a leaf with nothing left of its key.
+fn leaf(alloc: Global, value: &[u8; 1]) -> Result<(Option<Digest>, u64), CloseError> {
+    let Ok(path) = Text::copy(alloc, &[]) else {
+        return Err(CloseError::NoMemory);
+    };
+    let value = value_ref(value);
+    Sub::Leaf { path, value }.name(alloc)
 }
 
 /// The two keys under an extension, put together by hand.
 #[test]
 fn subtrees(rt: HostRuntime) -> Result<(), Fail> {
     let alloc = rt.alloc();
+    let (first, first_usage) = leaf(alloc, b"a")?;
+    let (second, second_usage) = leaf(alloc, b"b")?;
+    assert!(rt; first_usage == 103 && second_usage == 103);
     let mut kids = Kids::NONE;
-    let mut kids_usage = 0u64;
-    for (nibble, value) in [(1, b"a"), (2, b"b")] {
-        let (name, usage) = leaf(alloc, &[], value)?.name(alloc)?;
-        kids.set(nibble, name);
-        assert!(rt; usage == 103);
-        kids_usage += usage;
-    }
-    assert!(rt; kids.count() == 2);
-    let branch = close_branch(alloc, None, &kids, kids_usage)?;
+    kids.set(1, first);
+    kids.set(2, second);
+    assert!(rt; kids.count() >= 2);
+    let branch = close_branch(alloc, None, &kids, first_usage + second_usage)?;
     assert_eq!(rt; branch.usage, 256);
+
     let sub = Sub::Branch {
         digest: branch.digest,
         usage: branch.usage,
     };
-    let sub = sub.under(alloc, &[])?.under(alloc, &[6])?;
-    let Ok(Some(closed)) = sub.close(alloc) else {
-        assert!(rt; false);
-        return Ok(());
-    };
+    let sub = sub.under(alloc, &[6])?;
+    let closed = sub.close(alloc)?.expect(&rt, "an extension has a record");
     let root = b"06481f83918f99a3be485a586d16b56c10a9d578353d60e887baa5f9c389262e";
     assert_eq!(rt; hex(&closed.digest).as_slice(), root.as_slice());
     assert_eq!(rt; closed.usage, 308);

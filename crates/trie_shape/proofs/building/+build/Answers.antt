@@ -66,8 +66,8 @@ pub branch-returns : goal.branch-returns
 branch-returns t c =
     let done : c.loop-nibble.nibble ≡ 16 = omega arith in
     IfOk-weaker c.fork_of.result _ _ (λ sub shows.
-      end-shown c.args.depth c.args.rows.now c.loop-nibble.rest.now c.loop-nibble.nibble c.loop-nibble.kids.value c.loop-nibble.kids_usage done c.loop-nibble.invariant c.requires.forks c.requires.two (option_map value_of c.ending-value.result.0) c.ending-value.ensures.value sub
-        (λ v trees e named used. shows v trees e (λ y h. ap (λ kids. kids_of kids y) c.deref.ensures ∙ named y h) used)) c.fork_of.ensures
+    end-shown c.args.depth c.args.rows.now c.loop-nibble.rest.now c.loop-nibble.nibble c.loop-nibble.kids.value c.loop-nibble.kids_usage done c.loop-nibble.invariant c.requires.forks c.requires.two (option_map value_of c.ending-value.result.0) c.ending-value.ensures.value sub
+    (λ v trees e named used. shows v trees e (λ y h. ap (λ kids. kids_of kids y) c.deref.ensures ∙ named y h) used)) c.fork_of.ensures
 
 pub named-name_of-requires : goal.named-name_of-requires
 named-name_of-requires t c =
