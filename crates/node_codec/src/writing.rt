@@ -49,7 +49,12 @@ pub fn write_node(alloc: Global, node: &Node, usage: u64) -> Result<Text, AllocE
 
 /// Writes the record of a leaf, whose path is nibbles, one to a byte.
 #[tactic(auto, unfolding(byte_model::specs::Node::spelled))]
-pub fn write_leaf(alloc: Global, path: &[u8], value: &ValueRef, usage: u64) -> Result<Text, AllocError>
+pub fn write_leaf(
+    alloc: Global,
+    path: &[u8],
+    value: &ValueRef,
+    usage: u64,
+) -> Result<Text, AllocError>
     requires nibbles { AreNibbles path.now }
     requires short { length path.now ≤ longest_path }
     ensures { IfOk result (λ text. text ≡ spelled (leaf path.now (value_of value.now)) usage) }

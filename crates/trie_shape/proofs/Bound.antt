@@ -1,5 +1,5 @@
 -- A bound on the usage of a trie: 2 ^ 23 for each nibble of each row, and for each row's end.
-use Rattle.std.proofs.Common.{◌≡◌, ◌≢◌, ℕ, zero, suc, ◌+◌, ◌*◌, ◌^◌, ◌≤◌, ◌<◌, ◌==◌, Bool, true, false, List, [], ◌∷◌, ◌++◌, length, Option, None, Some, IfSome, option_map, if◌then◌else◌, refl, sym, ◌∙◌, ap, ap₂, subst, arith}
+use Rattle.std.proofs.Common.{◌≡◌, ℕ, zero, suc, ◌+◌, ◌*◌, ◌^◌, ◌≤◌, ◌<◌, ◌==◌, Bool, true, false, List, [], ◌∷◌, ◌++◌, length, Option, None, Some, IfSome, option_map, if◌then◌else◌, refl, ◌∙◌, ap, subst, arith}
 use Rattle.std.specs.List.{AllByRecursion, cons_option}
 use Rattle.byte_model.specs.PackedPath.{two_to_a_byte, packed_behind, packed, longest_path}
 use Rattle.byte_model.specs.Below.{sum_below}
@@ -10,7 +10,7 @@ use Rattle.trie_model.specs.Texts.{top_cost, usage}
 use Rattle.std.proofs.lemmas.List.{length-append}
 use Rattle.std.proofs.lemmas.Bool.Decides.{nat_tests}
 use Rattle.trie_model.proofs.Joined.{sum_below-agree}
-use Rattle.trie_model.proofs.Rests.{equal_of_test, rest_behind-front, front_and_rest, common_front-all, HasFront, AllHaveFront}
+use Rattle.trie_model.proofs.Rests.{equal_of_test, rest_behind-front, front_and_rest, common_front-all, AllHaveFront}
 use Rattle.trie_model.proofs.Trees.{tree_of-nil, tree_of-one, tree_of-forks, tree_of-shares, by_cases}
 
 -- what one nibble, and one place, may cost at most

@@ -1,5 +1,5 @@
 -- The children of a branch, gathered nibble by nibble.
-use Rattle.std.proofs.Common.{◌≡◌, ◌≢◌, ℕ, zero, suc, ◌+◌, ◌-◌, ◌^◌, ◌<◌, ◌≤◌, ◌==◌, Bool, true, false, List, [], ◌∷◌, ◌++◌, map, length, take, drop, get_or, set, Option, None, Some, is_some, option_map, IfSome, if◌then◌else◌, ◌⊎◌, inl, inr, refl, sym, ◌∙◌, ap, ap₂, subst, arith}
+use Rattle.std.proofs.Common.{◌≡◌, ◌≢◌, ℕ, zero, suc, ◌+◌, ◌-◌, ◌^◌, ◌<◌, ◌≤◌, List, [], ◌∷◌, length, take, drop, set, Option, None, Some, is_some, option_map, IfSome, if◌then◌else◌, inl, inr, refl, sym, ◌∙◌, ap, ap₂, subst, arith}
 use Rattle.std.specs.List.{AllByRecursion}
 use Rattle.std.proofs.lemmas.Bool.{cases_lt}
 use Rattle.std.proofs.lemmas.List.{length-map}
@@ -8,20 +8,19 @@ use Rattle.std.proofs.Common.{get_or-set_other, get_or-set_same}
 use Rattle.sha2.specs.Sha256.{sha256}
 use Rattle.base_core.specs.declared.hash.Digest.{Digest}
 use Rattle.byte_model.specs.Below.{sum_below}
-use Rattle.byte_model.specs.Nibbles.{nibbles, AreNibbles}
-use Rattle.byte_model.specs.PackedPath.{longest_path}
+use Rattle.byte_model.specs.Nibbles.{nibbles}
 use Rattle.byte_model.specs.Node as node
 use Rattle.byte_model.specs.Node.{IsShaped, kid_count, longest_value, own_cost, ValueRef as ValueOfRecord}
 use Rattle.trie_model.specs.State.{Row}
-use Rattle.trie_model.specs.Tree.{Tree, nothing, leaf, branch, extension, below, ends_here, common_front, tree_of}
+use Rattle.trie_model.specs.Tree.{Tree, branch, below, ends_here, tree_of}
 use Rattle.trie_model.specs.Texts.{text, usage, top_cost, value_ref, name_of}
 use Rattle.trie_model.proofs.Joined.{sum_below-agree}
 use Rattle.trie_model.proofs.Trees.{tree_of-forks}
-use Rattle.node_codec.specs.Shown.{kids_of, value_of}
+use Rattle.node_codec.specs.Shown.{kids_of}
 use Rattle.trie_shape.specs.declared.closed.Closed.{Closed}
 use Rattle.trie_shape.specs.declared.sub.Sub.{Sub}
 use Rattle.trie_shape.specs.declared.sub.Sub.TheVariants.{Branch}
-use Rattle.trie_shape.specs.Runs.{Rises, StartsFrom, AllFrom, goes_on, run_of, tails, front_of}
+use Rattle.trie_shape.specs.Runs.{Rises, StartsFrom, AllFrom, run_of, tails, front_of}
 use Rattle.trie_shape.specs.Seen.{Lent, row_at, seen, IsRowAt, AreRowsAt, IsLeft}
 use Rattle.trie_shape.specs.Shows.{Shows, IsName, IsTop}
 use Rattle.trie_shape.proofs.Rising.{after-run, below-run, below-after, rises-run, rises-drop}

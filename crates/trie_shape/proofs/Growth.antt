@@ -1,7 +1,7 @@
 -- The trie of rows with nibbles put before their paths.
-use Rattle.std.proofs.Common.{append-nil, ◌≡◌, ℕ, ◌==◌, true, false, List, [], ◌∷◌, ◌++◌, map, if◌then◌else◌, refl, sym, ◌∙◌, ap, subst}
+use Rattle.std.proofs.Common.{append-nil, ◌≡◌, ℕ, List, [], ◌∷◌, ◌++◌, refl, sym, ◌∙◌, ap}
 use Rattle.trie_model.specs.State.{Row}
-use Rattle.trie_model.specs.Tree.{Tree, nothing, leaf, branch, extension, below, ends_here, common, common_front, tree_of}
+use Rattle.trie_model.specs.Tree.{extension, below, common, common_front, tree_of}
 use Rattle.trie_model.proofs.Rests.{under, below-under, below-append, same_nibble}
 use Rattle.trie_model.proofs.Trees.{tree_of-nil, tree_of-one, tree_of-forks, tree_of-shares}
 use Rattle.trie_shape.specs.Grown.{grown}

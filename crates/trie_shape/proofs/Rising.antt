@@ -1,9 +1,9 @@
 -- Rows by strictly rising paths: what they share, which of them ends here, and the runs of a first nibble.
-use Rattle.std.proofs.Common.{◌≡◌, ℕ, zero, suc, ◌+◌, ◌<◌, ◌≤◌, ◌==◌, Bool, true, false, List, [], ◌∷◌, ◌++◌, map, length, take, drop, Option, None, Some, if◌then◌else◌, ◌⊎◌, inl, inr, refl, sym, ◌∙◌, ap, ap₂, subst, arith}
+use Rattle.std.proofs.Common.{◌≡◌, ℕ, zero, suc, ◌<◌, ◌≤◌, ◌==◌, true, false, List, [], ◌∷◌, length, take, drop, None, Some, if◌then◌else◌, inl, inr, refl, sym, ◌∙◌, ap, subst, arith}
 use Rattle.std.proofs.lemmas.Bool.Decides.{nat_tests}
-use Rattle.std.specs.List.{AllByRecursion, cons_option}
+use Rattle.std.specs.List.{AllByRecursion}
 use Rattle.trie_model.specs.State.{Row}
-use Rattle.trie_model.specs.Tree.{rest_behind, row_behind, below, ends_here, common, common_front}
+use Rattle.trie_model.specs.Tree.{rest_behind, below, ends_here, common, common_front}
 use Rattle.trie_model.proofs.Rests.{same_nibble, equal_of_test}
 use Rattle.trie_shape.specs.Runs.{IsBelow, Rises, StartsFrom, AllFrom, run_of, tails}
 

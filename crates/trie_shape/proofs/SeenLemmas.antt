@@ -1,15 +1,12 @@
 -- Pairs seen as rows from a depth on.
-use Rattle.std.proofs.Common.{◌≡◌, ℕ, zero, suc, ◌+◌, ◌-◌, ◌<◌, ◌≤◌, ◌==◌, Bool, true, false, List, [], ◌∷◌, ◌++◌, map, length, take, drop, get_or, Option, None, Some, option_map, if◌then◌else◌, Bor, ◌⊎◌, inl, inr, refl, sym, ◌∙◌, ap, ap₂, subst, arith}
-use Rattle.std.specs.List.{AllByRecursion}
+use Rattle.std.proofs.Common.{◌≡◌, ℕ, zero, suc, ◌+◌, ◌<◌, ◌≤◌, Bool, true, false, List, [], ◌∷◌, length, drop, get_or, None, Some, option_map, if◌then◌else◌, refl, sym, ◌∙◌, ap, subst, arith}
 use Rattle.std.proofs.Math.Seq.{drop-cons}
-use Rattle.byte_model.specs.Nibbles.{nibbles, AreNibbles}
-use Rattle.byte_model.specs.PackedPath.{longest_path}
-use Rattle.byte_model.specs.Node.{longest_value}
+use Rattle.byte_model.specs.Nibbles.{nibbles}
 use Rattle.trie_model.specs.State.{Row}
 use Rattle.trie_model.specs.Tree.{below, ends_here}
 use Rattle.trie_model.specs.Texts.{value_ref}
-use Rattle.trie_shape.specs.Runs.{IsBelow, Rises, StartsFrom, AllFrom, goes_on, run_of, tails}
-use Rattle.trie_shape.specs.Seen.{Lent, row_at, seen, IsRowAt, AreRowsAt, IsLeft}
+use Rattle.trie_shape.specs.Runs.{StartsFrom, AllFrom, goes_on, run_of}
+use Rattle.trie_shape.specs.Seen.{Lent, row_at, seen, AreRowsAt, IsLeft}
 use Rattle.trie_shape.proofs.Rising.{all-behind, none-ends, ends-first, below-first}
 
 -- ---- how long a run is

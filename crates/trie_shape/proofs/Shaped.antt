@@ -1,12 +1,12 @@
 -- A branch of rising rows has two of children and value at least.
-use Rattle.std.proofs.Common.{◌≡◌, ◌≢◌, ℕ, zero, suc, ◌+◌, ◌≤◌, ◌<◌, ◌==◌, Bool, true, false, List, [], ◌∷◌, ◌++◌, length, Option, None, Some, is_some, option_map, if◌then◌else◌, refl, sym, ◌∙◌, ap, ap₂, subst, arith, ◌⊎◌, inl, inr}
+use Rattle.std.proofs.Common.{◌≡◌, ◌≢◌, ℕ, zero, suc, ◌+◌, ◌≤◌, ◌<◌, ◌==◌, Bool, true, false, List, [], ◌∷◌, Option, None, Some, is_some, option_map, if◌then◌else◌, refl, sym, ◌∙◌, ap, subst, arith, inl, inr}
 use Rattle.std.specs.List.{AllByRecursion, cons_option}
 use Rattle.std.proofs.lemmas.Bool.{cases_lt}
 use Rattle.byte_model.specs.Below.{sum_below}
 use Rattle.byte_model.specs.Nibbles.{AreNibbles}
 use Rattle.byte_model.specs.Node.{kid_count}
 use Rattle.trie_model.specs.State.{Row}
-use Rattle.trie_model.specs.Tree.{Tree, nothing, leaf, branch, extension, below, rest_behind, ends_here, common, common_front, forked, tree_by, tree_of}
+use Rattle.trie_model.specs.Tree.{Tree, below, rest_behind, ends_here, common, common_front, forked, tree_of}
 use Rattle.trie_model.specs.Texts.{name_of, text}
 use Rattle.trie_model.proofs.Rests.{same_nibble, below-some}
 use Rattle.trie_model.proofs.Trees.{tree_by-tree_of}

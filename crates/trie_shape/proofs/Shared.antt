@@ -1,13 +1,12 @@
 -- Rows without what they share: their trie is the trie of the rests, grown by it.
-use Rattle.std.proofs.Common.{◌≡◌, ◌≢◌, ℕ, zero, suc, ◌<◌, ◌≤◌, ◌==◌, true, false, List, [], ◌∷◌, ◌++◌, map, length, take, drop, get_or, Some, ◌⊎◌, inl, inr, refl, sym, ◌∙◌, ap, ap₂, subst, arith}
+use Rattle.std.proofs.Common.{◌≡◌, ◌≢◌, ℕ, zero, suc, ◌<◌, ◌≤◌, ◌==◌, true, false, List, [], ◌∷◌, ◌++◌, map, length, take, drop, get_or, Some, inl, inr, refl, sym, ◌∙◌, ap, ap₂, subst, arith}
 use Rattle.std.specs.List.{AllByRecursion}
 use Rattle.std.proofs.lemmas.Bool.{false_from_ne_true}
 use Rattle.std.proofs.Math.Seq.{drop-append_seam}
 use Rattle.std.proofs.lemmas.List.{length-take-le}
 use Rattle.trie_model.specs.State.{Row}
-use Rattle.trie_model.specs.Tree.{Tree, branch, rest_behind, below, ends_here, common, common_front, tree_of}
-use Rattle.trie_model.proofs.Rests.{under, under-below, common_front-all, AllHaveFront, rest_behind-front, same_nibble, equal_of_test, none_cons, first_same, rest_same}
-use Rattle.trie_model.proofs.Trees.{tree_of-nil, tree_of-one, tree_of-forks}
+use Rattle.trie_model.specs.Tree.{rest_behind, below, common, tree_of}
+use Rattle.trie_model.proofs.Rests.{under, under-below, common_front-all, AllHaveFront, rest_behind-front, same_nibble, equal_of_test, first_same, rest_same}
 use Rattle.trie_shape.specs.Grown.{grown}
 use Rattle.trie_shape.specs.Runs.{IsBelow, Rises, front_of}
 use Rattle.trie_shape.proofs.Growth.{common_front-under, tree_of-under}

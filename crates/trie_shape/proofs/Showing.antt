@@ -6,7 +6,7 @@ use Rattle.sha2.specs.Sha256.{sha256}
 use Rattle.base_core.specs.declared.hash.Digest.{Digest}
 use Rattle.byte_model.specs.Node as node
 use Rattle.byte_model.specs.Borsh.{borsh_u16, borsh_u64}
-use Rattle.byte_model.specs.Below.{sum_below, joined_below}
+use Rattle.byte_model.specs.Below.{sum_below}
 use Rattle.trie_model.proofs.Joined.{sum_below-agree, joined_below-agree}
 use Rattle.byte_model.specs.Node.{Node, spelled_kids, spelled_value, child_bit, child_digest, spelled, own_cost, ValueRef as ValueOfRecord}
 use Rattle.node_codec.specs.Shown.{value_of}

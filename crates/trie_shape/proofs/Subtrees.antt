@@ -1,17 +1,17 @@
 -- The trie of pairs from a depth on, by what their keys share there.
-use Rattle.std.proofs.Common.{◌≡◌, ◌≢◌, ℕ, zero, suc, ◌+◌, ◌-◌, ◌^◌, ◌<◌, ◌≤◌, List, [], ◌∷◌, ◌++◌, map, length, take, drop, get_or, Option, None, Some, refl, sym, ◌∙◌, ap, ap₂, subst, arith}
+use Rattle.std.proofs.Common.{◌≡◌, ◌≢◌, ℕ, suc, ◌+◌, ◌-◌, ◌^◌, ◌<◌, ◌≤◌, List, [], ◌∷◌, ◌++◌, length, take, drop, get_or, Option, None, Some, refl, sym, ◌∙◌, ap, ap₂, subst, arith}
 use Rattle.std.specs.Prelude.{⊤}
 use Rattle.std.specs.List.{AllByRecursion}
 use Rattle.std.proofs.lemmas.List.{length-append, length-drop, drop-drop}
 use Rattle.std.proofs.Math.Seq.{take-append_seam}
 use Rattle.byte_model.specs.Nibbles.{nibbles, AreNibbles}
-use Rattle.byte_model.specs.PackedPath.{longest_path, packed}
+use Rattle.byte_model.specs.PackedPath.{longest_path}
 use Rattle.byte_model.specs.Node as node
 use Rattle.byte_model.specs.Node.{Node, IsShaped, longest_value, own_cost, ValueRef as ValueOfRecord}
 use Rattle.trie_model.specs.State.{Row}
-use Rattle.trie_model.specs.Tree.{Tree, nothing, leaf, branch, extension, below, common, common_front, ends_here, tree_of}
-use Rattle.trie_model.specs.Texts.{text, usage, top_cost, value_ref}
-use Rattle.trie_model.proofs.Rests.{HasFront, AllHaveFront, common_front-all}
+use Rattle.trie_model.specs.Tree.{Tree, nothing, leaf, branch, extension, common, common_front, tree_of}
+use Rattle.trie_model.specs.Texts.{usage, top_cost, value_ref}
+use Rattle.trie_model.proofs.Rests.{AllHaveFront, common_front-all}
 use Rattle.trie_model.proofs.Trees.{tree_of-nil, tree_of-one, tree_of-forks, tree_of-shares}
 use Rattle.node_codec.specs.Shown.{value_of}
 use Rattle.trie_shape.specs.declared.sub.Sub.{Sub}

@@ -1,9 +1,7 @@
 -- The rows of a whole state.
-use Rattle.std.proofs.Common.{◌≡◌, ℕ, ◌+◌, ◌*◌, ◌/◌, ◌%◌, ◌^◌, ◌<◌, ◌≤◌, List, [], ◌∷◌, map, length, drop, Option, None, Some, unwrap_or, option_map, Bor, T, refl, sym, ◌∙◌, ap, ap₂, subst, arith}
+use Rattle.std.proofs.Common.{◌≡◌, ℕ, ◌*◌, ◌^◌, ◌<◌, List, [], ◌∷◌, map, length, Option, None, Some, unwrap_or, option_map, refl, sym, ◌∙◌, ap, subst, arith}
 use Rattle.std.specs.List.{AllByRecursion}
-use Rattle.std.specs.Ordering.{nat_cmp}
-use Rattle.std.specs.Cmp.Lexicographic.{slice_cmp}
-use Rattle.std.specs.FinMap.{entries, entries_sorted}
+use Rattle.std.specs.FinMap.{entries}
 use Rattle.std.proofs.lemmas.List.{length-map}
 use Rattle.byte_model.specs.Nibbles.{nibbles, AreBytes, AreNibbles}
 use Rattle.trie_model.specs.State.{State, Row, rows_of, IsPair}
@@ -14,10 +12,10 @@ use Rattle.trie_model.proofs.Costs.{subtree_at-root}
 use Rattle.base_core.specs.declared.hash.Digest.{Digest}
 use Rattle.base_core.specs.Held.{Held, IsHeld}
 use Rattle.trie_shape.specs.Runs.{Rises}
-use Rattle.trie_shape.specs.Seen.{Lent, row_at, seen, IsRowAt, AreRowsAt}
+use Rattle.trie_shape.specs.Seen.{Lent, seen, IsRowAt, AreRowsAt}
 use Rattle.trie_shape.specs.Shows.{IsName}
 use Rattle.trie_shape.proofs.Sorted.{rises-rows_of}
-use Rattle.trie_shape.proofs.Bound.{AllFit, usage-fits}
+use Rattle.trie_shape.proofs.Bound.{usage-fits}
 use Rattle.trie_shape.proofs.Branching.{all-fit, length-seen}
 
 abbrev Entry : Type 0

@@ -1,13 +1,9 @@
-use Rattle.std.proofs.Common.{◌≡◌, ◌+◌, ◌<◌, ◌≤◌, ◌^◌, List, length, take, drop, set, arith, ap, sym, subst, ◌∙◌, rules, option_map, refl}
+use Rattle.std.proofs.Common.{◌≡◌, ◌+◌, ◌<◌, ◌≤◌, ◌^◌, length, set, arith, ap, sym, subst, ◌∙◌, rules, option_map, refl}
 use Rattle.byte_model.specs.PackedPath.{longest_path}
 use Rattle.byte_model.specs.Node.{IsShaped, own_cost}
 use Rattle.byte_model.specs.Node as node
-use Rattle.trie_model.specs.State.{Row}
-use Rattle.trie_model.specs.Texts as texts
-use Rattle.trie_model.specs.Tree.{ends_here, below, tree_of}
 use Rattle.node_codec.specs.Shown.{value_of, kids_of}
-use Rattle.trie_shape.specs.Seen.{Lent, seen, AreRowsAt}
-use Rattle.trie_shape.specs.Runs.{run_of}
+use Rattle.trie_shape.specs.Seen.{seen}
 use Rattle.trie_shape.proofs.Rising.{run-short}
 use Rattle.trie_shape.proofs.Branching.{gathered-none, length-seen, turn-rows, turn-fits, turn-adds, turn-more, IsGathered, end-shaped, end-shown, end-fits}
 use Rattle.trie_shape.proofs.Subtrees.{shown_may_write, empty-shown, one-shown, shared-front, deeper-short, deeper-rows, deeper-forks, deeper-fits, deep-first, several-shown}

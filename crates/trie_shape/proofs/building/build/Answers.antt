@@ -1,4 +1,4 @@
-use Rattle.std.proofs.Common.{◌≡◌, ◌<◌, ◌^◌, refl, ap, sym, subst, ◌∙◌, unwrap_or}
+use Rattle.std.proofs.Common.{◌<◌, ◌^◌, refl, ap, sym, subst, ◌∙◌}
 use Rattle.trie_model.specs.Tree.{tree_of}
 use Rattle.trie_model.specs.Texts as texts
 use Rattle.trie_shape.specs.Seen.{seen, AreRowsAt}

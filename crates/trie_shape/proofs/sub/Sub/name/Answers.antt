@@ -1,4 +1,4 @@
-use Rattle.std.proofs.Common.{◌≡◌, IfSome, subst}
+use Rattle.std.proofs.Common.{IfSome, subst}
 use Rattle.trie_model.specs.Tree.{Tree}
 use Rattle.trie_shape.specs.Shows.{Shows, IsTop}
 use Rattle.trie_shape.proofs.Showing.{name_empty, name_branch, name_closed}
