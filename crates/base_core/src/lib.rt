@@ -6,6 +6,8 @@ mod fault;
 mod hash;
 mod hashing;
 mod limits;
+mod pairs;
+mod put_error;
 mod text;
 mod writer;
 
@@ -13,5 +15,10 @@ pub use fault::Fault;
 pub use hash::Digest;
 pub use hashing::digest;
 pub use limits::Limits;
+pub use pairs::Pairs;
+pub use put_error::PutError;
 pub use text::Text;
 pub use writer::Writer;
+
+#[cfg(test)]
+mod tests;

@@ -32,6 +32,13 @@ impl Text {
         Text { bytes }
     }
 
+    /// Its bytes, given up to the caller. It takes no memory.
+    pub(crate) fn into_bytes(self) -> Vec<u8>
+        ensures { result.items ≡ self }
+    {
+        self.bytes
+    }
+
     /// The bytes, as they are. It takes no memory.
     pub fn as_slice(&self) -> &[u8]
         ensures { result.now ≡ self.now }

@@ -9,7 +9,7 @@ mod writing;
 pub use kids::Kids;
 pub use node::Node;
 pub use value_ref::ValueRef;
-pub use writing::write_node;
+pub use writing::{write_branch, write_extension, write_leaf, write_node};
 
 #[cfg(test)]
 mod tests;

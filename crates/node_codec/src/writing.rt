@@ -47,8 +47,14 @@ pub fn write_node(alloc: Global, node: &Node, usage: u64) -> Result<Text, AllocE
     }
 }
 
+/// Writes the record of a leaf, whose path is nibbles, one to a byte.
 #[tactic(auto, unfolding(byte_model::specs::Node::spelled))]
-fn write_leaf(alloc: Global, path: &[u8], value: &ValueRef, usage: u64) -> Result<Text, AllocError>
+pub fn write_leaf(
+    alloc: Global,
+    path: &[u8],
+    value: &ValueRef,
+    usage: u64,
+) -> Result<Text, AllocError>
     requires nibbles { AreNibbles path.now }
     requires short { length path.now ≤ longest_path }
     ensures { IfOk result (λ text. text ≡ spelled (leaf path.now (value_of value.now)) usage) }
@@ -62,8 +68,9 @@ fn write_leaf(alloc: Global, path: &[u8], value: &ValueRef, usage: u64) -> Resul
     Ok(writer.into_text())
 }
 
+/// Writes the record of a branch. That it has two of children and value is the caller's to see to.
 #[tactic(auto, unfolding(byte_model::specs::Node::spelled))]
-fn write_branch(
+pub fn write_branch(
     alloc: Global,
     value: &Option<ValueRef>,
     kids: &Kids,
@@ -86,8 +93,10 @@ fn write_branch(
     Ok(writer.into_text())
 }
 
+/// Writes the record of an extension, whose path is nibbles, one to a byte. That it is not empty is
+/// the caller's to see to.
 #[tactic(auto, unfolding(byte_model::specs::Node::spelled))]
-fn write_extension(
+pub fn write_extension(
     alloc: Global,
     path: &[u8],
     child: &Digest,

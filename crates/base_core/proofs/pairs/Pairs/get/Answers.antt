@@ -1,0 +1,9 @@
+use Rattle.std.proofs.Common.{Some, ap, ◌∙◌}
+use Rattle.base_core.proofs.HeldLemmas.{get-held}
+use Rattle.base_core.proofs.pairs.Pairs.get.Goals as goal
+
+pub returns-in-Some : goal.returns-in-Some
+returns-in-Some c = rw (← c.self.view_is, get-held _ _ c.args.key.now c.self.invariant) (ap Some c.as_slice.ensures ∙ c.in-Some.ensures.value)
+
+pub returns-in-None : goal.returns-in-None
+returns-in-None c = rw (← c.self.view_is, get-held _ _ c.args.key.now c.self.invariant) c.in-None.ensures.value

@@ -1,0 +1,8 @@
+use Rattle.base_core.proofs.HeldLemmas.{kept-none, state-none}
+use Rattle.base_core.proofs.pairs.Pairs.new.Goals as goal
+
+pub invariant_of-result : goal.invariant_of-result
+invariant_of-result c = kept-none _ _ c.new.ensures.empty c.requires
+
+pub returns-clause-state : goal.returns-clause-state
+returns-clause-state c = state-none _ c.args.most c.new.ensures.empty

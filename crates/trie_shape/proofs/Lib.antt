@@ -1,0 +1,11 @@
+pub mod Growth
+pub mod Rising
+pub mod Sorted
+pub mod Shared
+pub mod Bound
+pub mod Shaped
+pub mod Showing
+pub mod SeenLemmas
+pub mod Branching
+pub mod Subtrees
+pub mod Whole

@@ -1,0 +1,4 @@
+pub mod Grown
+pub mod Runs
+pub mod Seen
+pub mod Shows

@@ -1,0 +1,43 @@
+-- Rows by rising paths, and the runs of rows that begin with one nibble.
+use Rattle.std.specs.Prelude.{◌≡◌, ℕ, suc, ◌<◌, ◌≤◌, ◌==◌, Bool, false, List, [], ◌∷◌, map, drop, if◌then◌else◌, ◌⊎◌}
+use Rattle.std.specs.List.{AllByRecursion}
+use Rattle.trie_model.specs.State.{Row}
+use Rattle.trie_model.specs.Tree.{common_front}
+
+-- an order on paths, a prefix first
+abbrev pub IsBelow : List ℕ → List ℕ → Type 0
+IsBelow p [] = ⊥
+IsBelow [] (y ∷ q) = Unit {0}
+IsBelow (x ∷ p) (y ∷ q) = (x < y) ⊎ ((x ≡ y) × IsBelow p q)
+
+-- each row's path is below those after it
+abbrev pub Rises : List Row → Type 0
+Rises [] = Unit {0}
+Rises (row ∷ rows) = AllByRecursion (λ other. IsBelow row.0 other.0) rows × Rises rows
+
+-- each path has a nibble, and the first is at least x
+abbrev pub StartsFrom : ℕ → List ℕ → Type 0
+StartsFrom x [] = ⊥
+StartsFrom x (y ∷ path) = x ≤ y
+
+abbrev pub AllFrom : ℕ → List Row → Type 0
+AllFrom x rows = AllByRecursion (λ row. StartsFrom x row.0) rows
+
+-- a path goes on with the nibble x
+abbrev pub goes_on : ℕ → List ℕ → Bool
+goes_on x [] = false
+goes_on x (y ∷ path) = x == y
+
+-- how many rows from the front on go on with the nibble x
+unfoldable pub run_of : ℕ → List Row → ℕ
+run_of x [] = 0
+run_of x (row ∷ rows) = if goes_on x row.0 then suc (run_of x rows) else 0
+
+-- the rows without their first nibbles
+abbrev pub tails : List Row → List Row
+tails rows = map (λ row. (drop 1 row.0, row.1)) rows
+
+-- the common front of rows, and nothing of no row
+abbrev pub front_of : List Row → List ℕ
+front_of [] = []
+front_of (row ∷ rows) = common_front row rows

@@ -1,0 +1,67 @@
+-- What a subtree whose top record is not yet written stands for, and what a record that was written does.
+use Rattle.std.specs.Prelude.{◌≡◌, ℕ, ◌+◌, List, [], ◌∷◌, ◌++◌, Option, None, Some, option_map, ⊤}
+use Rattle.sha2.specs.Sha256.{sha256}
+use Rattle.byte_model.specs.Node as node
+use Rattle.byte_model.specs.Node.{Node, spelled, own_cost}
+use Rattle.trie_model.specs.Tree.{Tree, nothing, leaf, branch, extension}
+use Rattle.trie_model.specs.Texts as texts
+use Rattle.trie_model.specs.Texts.{text, usage, value_ref, name_of}
+use Rattle.node_codec.specs.Shown.{value_of}
+use Rattle.base_core.specs.declared.hash.Digest.{Digest}
+use Rattle.trie_shape.specs.declared.closed.Closed.{Closed}
+use Rattle.trie_shape.specs.declared.sub.Sub.{Sub}
+use Rattle.trie_shape.specs.declared.sub.Sub.TheVariants.{Empty, Leaf, Branch, Extension}
+
+-- It shows a trie: the same path, the same names of what is below it, and the usage of what has its record already.
+abbrev pub Shows : Sub → Tree → Type 0
+Shows Empty nothing = ⊤
+Shows (Leaf path value) (leaf p v) = (path ≡ p) × (value_of value ≡ value_ref v)
+Shows (Branch digest used) (branch v kids) = (digest.0 ≡ sha256 (text (branch v kids))) × (used ≡ usage (branch v kids))
+Shows (Extension path child used) (extension p tree) = (path ≡ p) × (child.0 ≡ sha256 (text tree)) × (used ≡ usage tree)
+Shows sub tree = ⊥
+
+-- it with nibbles put before it
+abbrev pub under_of : List ℕ → Sub → Sub
+under_of nibbles Empty = Empty
+under_of nibbles (Leaf path value) = Leaf (nibbles ++ path) value
+under_of [] (Branch digest used) = Branch digest used
+under_of (x ∷ nibbles) (Branch digest used) = Extension (x ∷ nibbles) digest used
+under_of nibbles (Extension path child used) = Extension (nibbles ++ path) child used
+
+-- the node whose record is to be written, if one is
+abbrev pub top_node : Sub → Option Node
+top_node Empty = None
+top_node (Leaf path value) = Some (node.leaf path (value_of value))
+top_node (Branch digest used) = None
+top_node (Extension path child used) = Some (node.extension path child.0)
+
+-- the path of that node
+abbrev pub path_of : Sub → List ℕ
+path_of Empty = []
+path_of (Leaf path value) = path
+path_of (Branch digest used) = []
+path_of (Extension path child used) = path
+
+-- what the whole subtree uses
+abbrev pub usage_of : Sub → ℕ
+usage_of Empty = 0
+usage_of (Leaf path value) = own_cost (node.leaf path (value_of value))
+usage_of (Branch digest used) = used
+usage_of (Extension path child used) = own_cost (node.extension path child.0) + used
+
+-- the record of a node in a subtree of this usage
+pub record IsRecord (closed : Closed) (node : Node) (used : ℕ) : Type 0 where
+  pub text : closed.text ≡ spelled node used
+  pub digest : closed.digest.0 ≡ sha256 closed.text
+  pub usage : closed.usage ≡ used
+
+-- the record of the top place of a trie
+pub record IsTop (closed : Closed) (tree : Tree) : Type 0 where
+  pub text : closed.text ≡ texts.text tree
+  pub digest : closed.digest.0 ≡ sha256 closed.text
+  pub usage : closed.usage ≡ texts.usage tree
+
+-- the digest by which a parent names a trie, if it has a row, and its usage
+pub record IsName (name : Option Digest × ℕ) (tree : Tree) : Type 0 where
+  pub digest : option_map (λ d. d.0) name.0 ≡ name_of tree (texts.text tree)
+  pub usage : name.1 ≡ texts.usage tree

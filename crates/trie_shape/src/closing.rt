@@ -1,0 +1,118 @@
+ghost use Rattle.std.specs.Prelude.{◌≡◌, ◌+◌, ◌^◌, ◌<◌, ◌≤◌, ◌↔◌, ℕ, List, Option, length, option_map, None, Err, IfOk};
+ghost use Rattle.sha2.specs.Sha256.{sha256};
+ghost use Rattle.byte_model.specs.Below.{sum_below};
+ghost use Rattle.byte_model.specs.Nibbles.{AreNibbles};
+ghost use Rattle.byte_model.specs.PackedPath.{longest_path};
+ghost use Rattle.byte_model.specs.Node.{leaf, branch, extension, own_cost, IsShaped};
+ghost use Rattle.trie_model.specs.Tree.{Tree};
+ghost use Rattle.trie_model.specs.Tree as tree;
+ghost use Rattle.trie_model.specs.Texts.{usage, text, name_of, value_ref};
+ghost use Rattle.node_codec.specs.Shown.{value_of, kids_of};
+ghost use Rattle.trie_shape.specs.declared.close_error.CloseError.TheVariants.{Usage};
+ghost use Rattle.trie_shape.specs.Shows.{IsRecord, IsTop};
+
+use crate::close_error::CloseError;
+use crate::closed::Closed;
+use base_core::{Digest, Text, digest};
+use nibble_keys::packed_len;
+use node_codec::{Kids, ValueRef, write_branch, write_extension, write_leaf};
+use std::alloc::{AllocError, Global};
+
+/// What a node costs by itself, and what each byte of its path and its value add.
+const NODE_COST: u64 = 50;
+
+const PATH_BYTE_COST: u64 = 2;
+
+const VALUE_COST: u64 = 50;
+
+/// Writes the record of a branch, whose children together have this usage.
+pub fn close_branch(
+    alloc: Global,
+    value: Option<ValueRef>,
+    kids: &Kids,
+    kids_usage: u64,
+) -> Result<Closed, CloseError>
+    requires { IsShaped (branch (option_map value_of value) (kids_of kids.now)) }
+    ensures usage { (result ≡ Err Usage) ↔ (2 ^ 64 ≤ own_cost (branch (option_map value_of value) (kids_of kids.now)) + kids_usage) }
+    ensures written { IfOk result (λ closed. IsRecord closed (branch (option_map value_of value) (kids_of kids.now)) (own_cost (branch (option_map value_of value) (kids_of kids.now)) + kids_usage)) }
+    ensures shows { IfOk result (λ closed. (v : Option (List ℕ)) (trees : ℕ → Tree) → option_map value_of value ≡ option_map value_ref v → ((x : ℕ) → x < 16 → kids_of kids.now x ≡ name_of (trees x) (text (trees x))) → kids_usage ≡ sum_below (λ x. usage (trees x)) 16 → IsTop closed (tree.branch v trees)) }
+{
+    match branch_cost(&value).checked_add(kids_usage) {
+        None => Err(CloseError::Usage),
+        Some(usage) => match write_branch(alloc, &value, kids, usage) {
+            Ok(text) => Ok(closed(text, usage)),
+            Err(AllocError) => Err(CloseError::NoMemory),
+        },
+    }
+}
+
+pub(crate) fn close_leaf(alloc: Global, path: &[u8], value: &ValueRef) -> Result<Closed, AllocError>
+    requires nibbles { AreNibbles path.now }
+    requires short { length path.now ≤ longest_path }
+    ensures written { IfOk result (λ closed. IsRecord closed (leaf path.now (value_of value.now)) (own_cost (leaf path.now (value_of value.now)))) }
+    ensures fits { own_cost (leaf path.now (value_of value.now)) < 2 ^ 64 }
+{
+    let usage = leaf_cost(path, value);
+    let text = write_leaf(alloc, path, value, usage)?;
+    Ok(closed(text, usage))
+}
+
+pub(crate) fn close_extension(
+    alloc: Global,
+    path: &[u8],
+    child: &Digest,
+    child_usage: u64,
+) -> Result<Closed, CloseError>
+    requires nibbles { AreNibbles path.now }
+    requires short { length path.now ≤ longest_path }
+    ensures usage { (result ≡ Err Usage) ↔ (2 ^ 64 ≤ own_cost (extension path.now child.now.0) + child_usage) }
+    ensures written { IfOk result (λ closed. IsRecord closed (extension path.now child.now.0) (own_cost (extension path.now child.now.0) + child_usage)) }
+{
+    match extension_cost(path).checked_add(child_usage) {
+        None => Err(CloseError::Usage),
+        Some(usage) => match write_extension(alloc, path, child, usage) {
+            Ok(text) => Ok(closed(text, usage)),
+            Err(AllocError) => Err(CloseError::NoMemory),
+        },
+    }
+}
+
+fn closed(text: Text, usage: u64) -> Closed
+    ensures text { result.text ≡ text }
+    ensures digest { result.digest.0 ≡ sha256 text }
+    ensures usage { result.usage ≡ usage }
+{
+    let digest = digest(text.as_slice());
+    Closed {
+        text,
+        digest,
+        usage,
+    }
+}
+
+#[tactic(auto, unfolding(byte_model::specs::Node::own_cost))]
+fn leaf_cost(path: &[u8], value: &ValueRef) -> u64
+    requires { length path.now ≤ longest_path }
+    ensures { result ≡ own_cost (leaf path.now (value_of value.now)) }
+{
+    let value_bytes = value.length as u64;
+    NODE_COST + PATH_BYTE_COST * packed_len(path.len()) as u64 + VALUE_COST + value_bytes
+}
+
+#[tactic(auto, unfolding(byte_model::specs::Node::own_cost))]
+fn extension_cost(path: &[u8]) -> u64
+    requires { length path.now ≤ longest_path }
+    ensures { (child : List ℕ) → result ≡ own_cost (extension path.now child) }
+{
+    NODE_COST + PATH_BYTE_COST * packed_len(path.len()) as u64
+}
+
+#[tactic(auto, unfolding(byte_model::specs::Node::own_cost))]
+fn branch_cost(value: &Option<ValueRef>) -> u64
+    ensures { (kids : ℕ → Option (List ℕ)) → result ≡ own_cost (branch (option_map value_of value.now) kids) }
+{
+    match value {
+        Some(value) => NODE_COST + VALUE_COST + value.length as u64,
+        None => NODE_COST,
+    }
+}

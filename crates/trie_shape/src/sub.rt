@@ -1,0 +1,131 @@
+ghost use Rattle.std.specs.Prelude.{◌≡◌, ◌≢◌, ◌^◌, ◌≤◌, ◌↔◌, ◌++◌, [], length, Ok, Err, None, IfOk, IfNone, IfSome, IsSomeAnd, OnOk};
+ghost use Rattle.std.specs.Option.{ForSome};
+ghost use Rattle.byte_model.specs.Nibbles.{AreNibbles};
+ghost use Rattle.byte_model.specs.PackedPath.{longest_path};
+ghost use Rattle.byte_model.specs.Node.{IsShaped};
+ghost use Rattle.trie_model.specs.Tree.{Tree};
+ghost use Rattle.trie_shape.specs.Grown.{grown};
+
+use crate::close_error::CloseError;
+use crate::closed::Closed;
+use crate::closing::{close_extension, close_leaf};
+use base_core::{Digest, Text, Writer};
+use node_codec::ValueRef;
+use std::alloc::{AllocError, Global};
+
+/// A canonical subtree whose top record is not yet written. Its paths are nibbles, one to a byte.
+#[derive(Debug, Drop)]
+pub enum Sub {
+    /// No pair.
+    Empty,
+    /// One pair: the nibbles that are left of its key, and its value.
+    Leaf {
+        path: Text,
+        value: ValueRef,
+    },
+    /// A branch, whose record is written: its digest, and the usage that it states.
+    Branch {
+        digest: Digest,
+        usage: u64,
+    },
+    /// Nibbles before a branch whose record is written.
+    Extension {
+        path: Text,
+        child: Digest,
+        child_usage: u64,
+    },
+}
+
+impl Sub {
+    ghost use Rattle.trie_shape.specs.declared.close_error.CloseError.TheVariants.{Usage};
+    ghost use Rattle.trie_shape.specs.Shows.{Shows, under_of, top_node, path_of, usage_of, IsRecord, IsTop, IsName};
+
+    /// Puts nibbles before it: a path grows, a branch becomes the child of an extension, and no
+    /// nibbles change nothing.
+    pub fn under(self, alloc: Global, nibbles: &[u8]) -> Result<Sub, AllocError>
+        ensures value { IfOk result (λ sub. sub ≡ under_of nibbles.now self) }
+        ensures shows { IfOk result (λ sub. (tree : Tree) → Shows self tree → Shows sub (grown nibbles.now tree)) }
+    {
+        match self {
+            Sub::Empty => Ok(Sub::Empty),
+            Sub::Leaf { path, value } => Ok(Sub::Leaf {
+                path: joined(alloc, nibbles, path.as_slice())?,
+                value,
+            }),
+            Sub::Branch { digest, usage } if nibbles.is_empty() => {
+                Ok(Sub::Branch { digest, usage })
+            }
+            Sub::Branch { digest, usage } => Ok(Sub::Extension {
+                path: Text::copy(alloc, nibbles)?,
+                child: digest,
+                child_usage: usage,
+            }),
+            Sub::Extension {
+                path,
+                child,
+                child_usage,
+            } => Ok(Sub::Extension {
+                path: joined(alloc, nibbles, path.as_slice())?,
+                child,
+                child_usage,
+            }),
+        }
+    }
+
+    /// Writes the record of a leaf or an extension. There is none to write for no pair, and a
+    /// branch has its record already.
+    pub fn close(self, alloc: Global) -> Result<Option<Closed>, CloseError>
+        requires nibbles { AreNibbles (path_of self) }
+        requires short { length (path_of self) ≤ longest_path }
+        requires shaped { ForSome (top_node self) IsShaped }
+        ensures none { IfNone (top_node self) (result ≡ Ok None) }
+        ensures usage { (result ≡ Err Usage) ↔ (2 ^ 64 ≤ usage_of self) }
+        ensures written { IfOk result (λ closed. IfSome (top_node self) (λ node. IsSomeAnd closed (λ c. IsRecord c node (usage_of self)))) }
+        ensures shows { IfOk result (λ closed. IfSome closed (λ c. (tree : Tree) → Shows self tree → IsTop c tree)) }
+    {
+        match self {
+            Sub::Empty | Sub::Branch { .. } => Ok(None),
+            Sub::Leaf { path, value } => match close_leaf(alloc, path.as_slice(), &value) {
+                Ok(closed) => Ok(Some(closed)),
+                Err(AllocError) => Err(CloseError::NoMemory),
+            },
+            Sub::Extension {
+                path,
+                child,
+                child_usage,
+            } => match close_extension(alloc, path.as_slice(), &child, child_usage) {
+                Ok(closed) => Ok(Some(closed)),
+                Err(error) => Err(error),
+            },
+        }
+    }
+
+    /// The digest by which a parent names it, or none where it has no pair, and its usage. The
+    /// record of a leaf or an extension is written for it.
+    pub fn name(self, alloc: Global) -> Result<(Option<Digest>, u64), CloseError>
+        requires nibbles { AreNibbles (path_of self) }
+        requires short { length (path_of self) ≤ longest_path }
+        requires shaped { ForSome (top_node self) IsShaped }
+        ensures usage { (result ≡ Err Usage) ↔ (2 ^ 64 ≤ usage_of self) }
+        ensures name { IfOk result (λ name. (tree : Tree) → Shows self tree → IsName name tree) }
+    {
+        match self {
+            Sub::Empty => Ok((None, 0)),
+            Sub::Branch { digest, usage } => Ok((Some(digest), usage)),
+            sub => match sub.close(alloc) {
+                Ok(Some(closed)) => Ok((Some(closed.digest), closed.usage)),
+                Ok(None) => unreachable!(),
+                Err(error) => Err(error),
+            },
+        }
+    }
+}
+
+fn joined(alloc: Global, front: &[u8], path: &[u8]) -> Result<Text, AllocError>
+    ensures { IfOk result (λ text. text ≡ front.now ++ path.now) }
+{
+    let mut writer = Writer::new(alloc);
+    writer.put_raw(front)?;
+    writer.put_raw(path)?;
+    Ok(writer.into_text())
+}
