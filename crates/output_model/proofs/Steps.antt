@@ -1,13 +1,13 @@
 -- The output of some lines, by the first of them.
-use Rattle.std.proofs.Common.{◌≡◌, ◌≢◌, ℕ, ◌+◌, ◌<◌, ◌≤◌, Bool, true, false, cond, eqb, ltb, List, [], ◌∷◌, length, take, drop, Option, Some, None, refl, sym, ap, ◌∙◌, subst, arith, ⊎_elim}
+use Rattle.std.proofs.Common.{◌≡◌, ◌≢◌, ℕ, ◌+◌, ◌<◌, ◌≤◌, Bool, true, false, cond, List, [], ◌∷◌, length, refl, sym, ap, ◌∙◌, subst, arith, ⊎_elim}
 use mathlib.Core.Path.{fun_ext}
-use Rattle.std.specs.List.{slice_split, onto_first, position_or_len, before_first, after_first}
+use Rattle.std.specs.List.{slice_split, onto_first, position_or_len}
 use Rattle.std.proofs.lemmas.Bool.{lt-ltb, le-ltb, ne_eqb, cases_lt}
 use Rattle.std.proofs.lemmas.List.{nil_from_length, length-drop, take_all}
 use Rattle.std.proofs.lemmas.List.Elements.{All-from_get_or}
 use Rattle.std.proofs.lemmas.List.Splits.{slice_split_none, slice_split_first}
 use Rattle.std.proofs.lemmas.List.Sums.{fails_before_first}
-use Rattle.script_model.specs.Lines.{Event, pieces, is_line_feed, first_line, first_feed, behind_line, first_fault, line_fault, event_if, read_at}
+use Rattle.script_model.specs.Lines.{pieces, is_line_feed, first_line, first_feed, behind_line, first_fault, line_fault, event_if, read_at}
 use Rattle.trie_model.specs.State.{State}
 use Rattle.output_model.specs.Ends.{Output, RunLimits}
 use Rattle.output_model.specs.Root.{root_done, after_line, lines_output}
@@ -21,6 +21,7 @@ split_some p (x ∷ bytes) = here (p x) (slice_split p bytes)
     onto : (parts : List (List ℕ)) → (first : List ℕ) × (others : List (List ℕ)) × (onto_first x parts ≡ first ∷ others)
     onto [] = (x ∷ [], [], refl)
     onto (part ∷ parts) = (x ∷ part, parts, refl)
+
     here : (b : Bool) (parts : List (List ℕ)) → (first : List ℕ) × (others : List (List ℕ)) × (cond b ([] ∷ parts) (onto_first x parts) ≡ first ∷ others)
     here true parts = ([], parts, refl)
     here false parts = onto parts

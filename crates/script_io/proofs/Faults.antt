@@ -1,5 +1,5 @@
 -- Why a line is not read, by tests of its size.
-use Rattle.std.proofs.Common.{◌≡◌, ℕ, ◌+◌, ◌-◌, ◌^◌, ◌<◌, ◌≤◌, ◌&&◌, Bool, true, false, cond, leb, ltb, List, Option, Some, None, refl, sym, ap, ◌∙◌, ◌⊎◌, inl, inr, arith, ⊎_elim}
+use Rattle.std.proofs.Common.{◌≡◌, ℕ, ◌+◌, ◌^◌, ◌<◌, ◌≤◌, ◌&&◌, false, leb, ltb, Some, None, refl, sym, ◌∙◌, ◌⊎◌, inl, inr, arith, ⊎_elim}
 use Rattle.std.proofs.lemmas.Bool.{lt-ltb, le-ltb, le-leb, lt-leb, cases_lt, and_left, and_right}
 use Rattle.script_model.specs.Lines.{LineFault, long, past, line_fault}
 

@@ -1,5 +1,5 @@
 -- Lines that are taken off a source, in whatever pieces it gives its bytes.
-use Rattle.std.specs.Prelude.{◌≡◌, ◌≢◌, ℕ, ◌+◌, ◌<◌, ◌≤◌, List, [], ◌++◌, length, Option, None, Some, IfSome, Result, Ok, Err}
+use Rattle.std.specs.Prelude.{◌≡◌, ◌≢◌, ℕ, ◌+◌, ◌≤◌, List, [], ◌++◌, length, Option, None, Some, IfSome, Result, Ok, Err}
 use Rattle.std.specs.Borrow.{Bor}
 use Rattle.script_model.specs.Lines.{long, past, first_line, first_feed, first_fault, behind_line, longest_input}
 use Rattle.script_io.specs.declared.line_error.LineError.{LineError}

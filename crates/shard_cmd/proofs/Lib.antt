@@ -1,4 +1,2 @@
-pub mod OnePair
-pub mod RootReplies
-pub mod LongInputs
 pub mod Runs
+pub mod Scripts

@@ -1,15 +1,21 @@
 -- How the status of a run and the bytes that it wrote stand to the output that is defined.
 use Rattle.std.specs.Prelude.{◌≡◌, ℕ, List, ◌++◌, Option, None, Some, ◌⊎◌}
-use Rattle.output_model.specs.Output.{Output, Ending, done, usage, refused}
+use Rattle.base_core.specs.declared.limits.Limits.{Limits}
+use Rattle.output_model.specs.Ends.{Output, Ending, RunLimits, done, usage, unread, refused}
 use Rattle.script_io.specs.Streams.{AppendsFront}
 use Rattle.shard_cmd.specs.declared.status.Status.{Status}
-use Rattle.shard_cmd.specs.declared.status.Status.TheVariants.{Done, NoMemory, Usage, Refused, ReadFault, WriteFault}
+use Rattle.shard_cmd.specs.declared.status.Status.TheVariants.{Done, NoMemory, Usage, Syntax, Refused, ReadFault, WriteFault}
+
+-- the limits as the definition of the output has them
+abbrev pub run_limits : Limits → RunLimits
+run_limits limits = record { pairs = limits.pairs; blocks = limits.blocks; changes = limits.changes }
 
 -- the ending that a status stands for, unless memory or an object of the outside failed
 abbrev pub ending_of : Status → Option Ending
 ending_of Done = Some done
 ending_of NoMemory = None
 ending_of Usage = Some usage
+ending_of Syntax = Some unread
 ending_of Refused = Some refused
 ending_of ReadFault = None
 ending_of WriteFault = None
@@ -22,3 +28,7 @@ EndsAs output None before after = AppendsFront before after output.bytes
 -- what a run may end with whose words are no command
 abbrev pub IsUsageUnlessFailed : Status → Type 0
 IsUsageUnlessFailed status = (status ≡ Usage) ⊎ (status ≡ NoMemory) ⊎ (status ≡ WriteFault)
+
+-- what a run may end with that carries out a command and does not fail
+abbrev pub IsAnswer : Status → Type 0
+IsAnswer status = (status ≡ Done) ⊎ (status ≡ Syntax) ⊎ (status ≡ Refused)

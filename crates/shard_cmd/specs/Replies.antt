@@ -1,15 +1,9 @@
 -- What it is for a reply of a run to be the defined output.
 use Rattle.std.specs.Prelude.{◌≡◌, Some}
-use Rattle.script_model.specs.Lines.{Event, set}
-use Rattle.trie_model.specs.State.{IsPair}
-use Rattle.output_model.specs.Output.{Output}
+use Rattle.output_model.specs.Ends.{Output}
 use Rattle.shard_cmd.specs.declared.reply.Reply.{Reply}
 use Rattle.shard_cmd.specs.Ends.{ending_of}
 
 pub record IsReply (output : Output) (reply : Reply) : Type 0 where
   pub bytes : reply.bytes ≡ output.bytes
   pub ending : ending_of reply.status ≡ Some output.ending
-
--- the pair that an event sets is within the limits
-abbrev pub SetsPair : Event → Type 0
-SetsPair (set key value) = IsPair (key, value)

@@ -2,10 +2,10 @@
 //! that go out.
 #![tactic(auto)]
 
+mod events;
 mod reply;
 mod root;
 mod running;
-mod single;
 mod status;
 
 pub use running::run;

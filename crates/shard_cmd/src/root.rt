@@ -1,73 +1,111 @@
 ghost use Rattle.std.specs.Prelude.{◌≡◌, ◌≤◌, [], Some, IfOk, IfErr, IfSome, ◌⊎◌};
+ghost use Rattle.std.specs.FinMap.{empty};
+ghost use Rattle.base_core.specs.Bounds.{AreLimits};
 ghost use Rattle.base_core.specs.Faults.{Rose};
-ghost use Rattle.script_model.specs.Lines.{event_of};
+ghost use Rattle.output_model.specs.Ends.{RunLimits};
+ghost use Rattle.output_model.specs.Root.{root_output};
+ghost use Rattle.shard_cmd.specs.Ends.{run_limits, IsAnswer};
+ghost use Rattle.shard_cmd.specs.Events.{end_output, SetsPair, Lays};
 ghost use Rattle.script_io.specs.Shown.{event};
-ghost use Rattle.output_model.specs.Root.{state_of, state_of_event};
-ghost use Rattle.output_model.specs.Output.{root_output};
-ghost use Rattle.shard_cmd.specs.Replies.{IsReply, SetsPair};
+ghost use Rattle.shard_cmd.specs.Replies.{IsReply};
 
-use crate::reply::{Reply, not_built_reply, root_reply};
-use crate::single::{Rooted, single};
+use crate::events::{Stop, next_event};
+use crate::reply::{Reply, full_reply, root_reply, syntax_reply};
 use crate::status::Status;
-use base_core::Digest;
-use script_io::{Event, EventError, InputError, Source, only_line, read_event, read_within};
+use base_core::{Limits, Pairs, PutError};
+use script_io::{Event, Lines, Source};
 use std::alloc::{AllocError, Global};
+use trie_shape::build;
 
-// More than the line of any pair.
-const LONG_INPUT: usize = 8400001;
+/// How a script of `set` lines ended.
+#[derive(Clone, Copy, Debug, PartialEq, Eq)]
+pub enum End {
+    /// With the end of the input.
+    Whole,
+    /// At a line that is none of a script, with its number.
+    Unread(u64),
+    /// At a pair for which there is no room.
+    Full,
+}
 
 /// What `root` answers to the input of a source, or why it has no answer.
-pub fn answer_root<S: Source>(alloc: Global, source: &mut S) -> Result<Reply, Status>
-    ensures reply { IfSome (S.left source.old) (λ input. IfOk result (IsReply (root_output (state_of input)))) }
+pub fn answer_root<S: Source>(
+    alloc: Global,
+    source: &mut S,
+    limits: &Limits,
+) -> Result<Reply, Status>
+    requires { AreLimits limits.now }
+    ensures reply { IfSome (S.left source.old) (λ input. IfOk result (IsReply (root_output (run_limits limits.now) input))) }
     ensures nothing_left { IfOk result (λ reply. reply.status ≡ Status.Done → IfSome (S.left source.old) (λ _. S.left source.new ≡ Some [])) }
-    ensures known { IfOk result (λ reply. (reply.status ≡ Status.Done) ⊎ (reply.status ≡ Status.Refused)) }
+    ensures known { IfOk result (λ reply. IsAnswer reply.status) }
     ensures no_fall { S.faults source.old ≤ S.faults source.new }
     ensures failed { IfErr result (λ status. (status ≡ Status.NoMemory) ⊎ ((status ≡ Status.ReadFault) × Rose (S.faults source.old) (S.faults source.new))) }
 {
-    match read_within(alloc, source, LONG_INPUT) {
-        Ok(input) => reply_to(alloc, input.as_slice()).map_err(|_| Status::NoMemory),
-        Err(InputError::Long) => match not_built_reply(alloc) {
+    let mut pairs = Pairs::new(alloc, limits.pairs);
+    match read_pairs(alloc, source, &mut pairs) {
+        Ok(end) => match end_reply(alloc, end, &pairs) {
             Ok(reply) => Ok(reply),
             Err(_) => Err(Status::NoMemory),
         },
-        Err(InputError::ReadFault) => Err(Status::ReadFault),
-        Err(InputError::NoMemory) => Err(Status::NoMemory),
+        Err(status) => Err(status),
     }
 }
 
-/// What `root` answers to an input.
-fn reply_to(alloc: Global, input: &[u8]) -> Result<Reply, AllocError>
-    ensures { IfOk result (IsReply (root_output (state_of input.now))) }
+/// The reply at the end of a script that left these pairs.
+fn end_reply(alloc: Global, end: End, pairs: &Pairs) -> Result<Reply, AllocError>
+    ensures reply { IfOk result (IsReply (end_output end pairs.now.state)) }
+    ensures done { IfOk result (λ reply. reply.status ≡ Status.Done → end ≡ End.Whole) }
+    ensures known { IfOk result (λ reply. IsAnswer reply.status) }
 {
-    if input.is_empty() {
-        let rooted = Rooted {
-            root: Digest::ZERO,
-            usage: 0,
-        };
-        return root_reply(alloc, &rooted);
-    }
-    match only_line(input) {
-        Some(line) => line_reply(alloc, line),
-        None => not_built_reply(alloc),
+    match end {
+        End::Whole => root_reply(alloc, &build(alloc, pairs)?),
+        End::Unread(number) => syntax_reply(alloc, number),
+        End::Full => full_reply(alloc),
     }
 }
 
-/// What `root` answers to an input that is this line.
-fn line_reply(alloc: Global, line: &[u8]) -> Result<Reply, AllocError>
-    ensures { IfOk result (IsReply (root_output (state_of_event (event_of line.now)))) }
+/// Lays the pairs of a script over one another.
+pub fn read_pairs<S: Source>(
+    alloc: Global,
+    source: &mut S,
+    pairs: &mut Pairs,
+) -> Result<End, Status>
+    requires { pairs.old.state ≡ empty }
+    ensures end { (limits : RunLimits) → limits.pairs ≡ pairs.old.most →
+        IfSome (S.left source.old) (λ input. IfOk result (λ end. root_output limits input ≡ end_output end pairs.new.state)) }
+    ensures nothing_left { IfOk result (λ end. end ≡ End.Whole → IfSome (S.left source.old) (λ _. S.left source.new ≡ Some [])) }
+    ensures no_fall { S.faults source.old ≤ S.faults source.new }
+    ensures failed { IfErr result (λ status. (status ≡ Status.NoMemory) ⊎ ((status ≡ Status.ReadFault) × Rose (S.faults source.old) (S.faults source.new))) }
 {
-    match read_event(alloc, line) {
-        Ok(event) => event_reply(alloc, event),
-        Err(EventError::Bad) => not_built_reply(alloc),
-        Err(EventError::NoMemory) => Err(AllocError),
+    let mut lines = Lines::new(alloc);
+    loop {
+        match next_event(alloc, &mut lines, source) {
+            Ok(None) => return Ok(End::Whole),
+            Ok(Some(event)) => match lay(pairs, event) {
+                Ok(true) => {}
+                Ok(false) => return Ok(End::Full),
+                Err(_) => return Err(Status::NoMemory),
+            },
+            Err(Stop::Syntax) => return Ok(End::Unread(lines.number())),
+            Err(Stop::ReadFault) => return Err(Status::ReadFault),
+            Err(Stop::NoMemory) => return Err(Status::NoMemory),
+        }
     }
 }
 
-fn event_reply(alloc: Global, asked: Event) -> Result<Reply, AllocError>
+/// Does what an event asks for, and answers whether there was room for it.
+fn lay(pairs: &mut Pairs, asked: Event) -> Result<bool, AllocError>
     requires { SetsPair (event asked) }
-    ensures { IfOk result (IsReply (root_output (state_of_event (Some (event asked))))) }
+    ensures lays { IfOk result (Lays pairs.old pairs.new (event asked)) }
+    ensures most { pairs.new.most ≡ pairs.old.most }
 {
     match asked {
-        Event::Set { key, value } => root_reply(alloc, &single(alloc, &key, &value)?),
+        Event::Nothing => Ok(true),
+        Event::Set { key, value } => match pairs.put(key, value) {
+            Ok(()) => Ok(true),
+            Err(PutError::Full) => Ok(false),
+            // The key and the value are within their limits, so there was no memory.
+            Err(_) => Err(AllocError),
+        },
     }
 }

@@ -1,10 +1,11 @@
-ghost use Rattle.std.specs.Prelude.{◌≡◌, ◌≤◌, ◌⊎◌, ◌≢◌, [], Some, None, IfSome};
+ghost use Rattle.std.specs.Prelude.{◌≡◌, ◌≢◌, ◌≤◌, ◌⊎◌, [], Some, None, IfSome};
 ghost use Rattle.base_core.specs.Bounds.{AreLimits};
 ghost use Rattle.base_core.specs.Faults.{Rose};
 ghost use Rattle.script_model.specs.Words.{command_of};
-ghost use Rattle.output_model.specs.Root.{state_of};
-ghost use Rattle.output_model.specs.Output.{Output, output_of, root_output};
-ghost use Rattle.shard_cmd.specs.Ends.{ending_of, EndsAs, IsUsageUnlessFailed};
+ghost use Rattle.output_model.specs.Ends.{Output};
+ghost use Rattle.output_model.specs.Root.{root_output};
+ghost use Rattle.output_model.specs.Output.{output_of};
+ghost use Rattle.shard_cmd.specs.Ends.{run_limits, ending_of, EndsAs, IsUsageUnlessFailed};
 
 use crate::root::answer_root;
 use crate::status::Status;
@@ -25,7 +26,7 @@ pub fn run<S: Source, K: Sink>(
 
     // The bytes that come in and those that go out, and the status with them.
     ensures output { IfSome (S.left source.old) (λ input. IfSome (K.written sink.old) (λ before.
-        EndsAs (output_of words.now input) (ending_of result) before (K.written sink.new))) }
+        EndsAs (output_of (run_limits limits.now) words.now input) (ending_of result) before (K.written sink.new))) }
     ensures nothing_left { result ≡ Status.Done → IfSome (S.left source.old) (λ _. S.left source.new ≡ Some []) }
 
     // Words that are no command, also where the source and the sink tell nothing.
@@ -40,16 +41,22 @@ pub fn run<S: Source, K: Sink>(
     ensures write_fault { result ≡ Status.WriteFault → Rose (K.faults sink.old) (K.faults sink.new) }
 {
     match read_command(alloc, words) {
-        Ok(Command::Root) => run_root(alloc, source, sink),
+        Ok(Command::Root) => run_root(alloc, source, sink, limits),
         Err(CommandError::Bad) => finish(sink, b"bad command\n", Status::Usage),
         Err(CommandError::NoMemory) => Status::NoMemory,
     }
 }
 
 /// The command `root`.
-fn run_root<S: Source, K: Sink>(alloc: Global, source: &mut S, sink: &mut K) -> Status
+fn run_root<S: Source, K: Sink>(
+    alloc: Global,
+    source: &mut S,
+    sink: &mut K,
+    limits: &Limits,
+) -> Status
+    requires { AreLimits limits.now }
     ensures output { IfSome (S.left source.old) (λ input. IfSome (K.written sink.old) (λ before.
-        EndsAs (root_output (state_of input)) (ending_of result) before (K.written sink.new))) }
+        EndsAs (root_output (run_limits limits.now) input) (ending_of result) before (K.written sink.new))) }
     ensures nothing_left { result ≡ Status.Done → IfSome (S.left source.old) (λ _. S.left source.new ≡ Some []) }
     ensures no_usage { result ≢ Status.Usage }
     ensures source_counts { S.faults source.old ≤ S.faults source.new }
@@ -57,7 +64,7 @@ fn run_root<S: Source, K: Sink>(alloc: Global, source: &mut S, sink: &mut K) -> 
     ensures read_fault { result ≡ Status.ReadFault → Rose (S.faults source.old) (S.faults source.new) }
     ensures write_fault { result ≡ Status.WriteFault → Rose (K.faults sink.old) (K.faults sink.new) }
 {
-    match answer_root(alloc, source) {
+    match answer_root(alloc, source, limits) {
         Ok(reply) => finish(sink, reply.bytes.as_slice(), reply.status),
         Err(status) => status,
     }

@@ -7,6 +7,8 @@ pub enum Status {
     NoMemory = 1,
     /// The words are no command. Nothing was read.
     Usage = 2,
+    /// A line is none of a script, or stands where it may not. Its number was written.
+    Syntax = 3,
     /// What was asked for is refused, by the name that was written.
     Refused = 4,
     /// The source failed.

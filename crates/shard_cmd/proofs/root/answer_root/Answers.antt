@@ -1,6 +1,7 @@
-use Rattle.shard_cmd.proofs.RootReplies.{long_reply}
+use Rattle.std.proofs.Common.{sym}
+use Rattle.shard_cmd.specs.Ends.{run_limits}
+use Rattle.shard_cmd.proofs.Scripts.{replies_to}
 use Rattle.shard_cmd.proofs.root.answer_root.Goals as goal
 
-pub returns-in-Ok-not_built_reply-clause-reply : goal.returns-in-Ok-not_built_reply-clause-reply
-returns-in-Ok-not_built_reply-clause-reply g c =
-    long_reply _ _ (rw c.in-Err-Long.field-0-is at c.in-Err-Long.ensures.all) c.in-Ok-not_built_reply.ensures
+pub returns-in-Ok-end_reply-clause-reply : goal.returns-in-Ok-end_reply-clause-reply
+returns-in-Ok-end_reply-clause-reply g c = replies_to (g.S.Source.left c.args.source.now) (run_limits c.args.limits.now) _ _ c.in-Ok-end_reply.reply (c.in-Ok.ensures.end (run_limits c.args.limits.now) (sym c.new-pairs.ensures.most)) c.in-Ok-end_reply.ensures.reply

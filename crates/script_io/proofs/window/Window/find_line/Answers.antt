@@ -1,5 +1,5 @@
 use Rattle.std.proofs.Common.{ℕ, length, drop, ap, arith}
-use Rattle.script_io.proofs.Finding.{finds_fed, bounds_fed, finds_fault, last_line, last_bounds, fill_falls, filled_place, Keeps-takes, IsFilled}
+use Rattle.script_io.proofs.Finding.{finds_fed, bounds_fed, finds_fault, last_line, last_bounds, fill_falls, filled_place, Keeps-takes}
 use Rattle.script_io.proofs.window.Window.find_line.Goals as goal
 
 pub returns-in-Some-clause-finds : goal.returns-in-Some-clause-finds

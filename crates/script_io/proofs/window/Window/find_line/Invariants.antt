@@ -1,4 +1,4 @@
-use Rattle.std.proofs.Common.{◌≡◌, ℕ, ◌-◌, ◌≤◌, List, length, drop, IfSome}
+use Rattle.std.proofs.Common.{◌-◌, ◌≤◌, length, drop}
 use Rattle.script_io.specs.Windows.{Keeps, place}
 use Rattle.script_io.proofs.window.Window.find_line.Given as goal
 

@@ -1,0 +1,38 @@
+use Rattle.std.proofs.Common.{refl, ◌∙◌, arith}
+use Rattle.shard_cmd.proofs.Scripts.{IsUpTo-begin, IsUpTo-laid, ends_whole, ends_unread, ends_full, nothing_left}
+use Rattle.shard_cmd.proofs.root.read_pairs.Goals as goal
+
+pub loop-lines-init : goal.loop-lines-init
+loop-lines-init g c = record {
+  up_to = IsUpTo-begin (g.S.Source.left c.args.source.now) _ _ _ c.new-lines.ensures c.requires;
+  most = refl;
+  no_fall = omega arith;
+}
+
+pub returns-in-Ok-None-clause-end : goal.returns-in-Ok-None-clause-end
+returns-in-Ok-None-clause-end g c = λ limits same.
+    ends_whole (g.S.Source.left c.args.source.now) (g.S.Source.left c.loop-lines.source) (g.S.Source.left c.next_event.new.source) _ c.loop-lines.lines c.next_event.new.lines c.loop-lines.pairs.state limits same c.loop-lines.invariant.up_to
+    (rw c.in-Ok-None.field-0-is at c.in-Ok-None.ensures.next)
+
+pub returns-in-Ok-None-clause-nothing_left : goal.returns-in-Ok-None-clause-nothing_left
+returns-in-Ok-None-clause-nothing_left g c = λ _.
+    nothing_left (g.S.Source.left c.args.source.now) (g.S.Source.left c.loop-lines.source) (g.S.Source.left c.next_event.new.source) _ c.loop-lines.lines c.next_event.new.lines c.loop-lines.pairs.state
+    (record { pairs = c.args.pairs.now.most; blocks = 0; changes = 0 }) refl c.loop-lines.invariant.up_to (rw c.in-Ok-None.field-0-is at c.in-Ok-None.ensures.next)
+
+pub loop-lines-preserved : goal.loop-lines-preserved
+loop-lines-preserved g c = record {
+  up_to = IsUpTo-laid (g.S.Source.left c.args.source.now) (g.S.Source.left c.loop-lines.source) (g.S.Source.left c.next_event.new.source) _ c.loop-lines.lines c.next_event.new.lines c.loop-lines.pairs c.lay.new.pairs c.in-Ok-Some.event
+      c.loop-lines.invariant.most (rw c.in-Ok-Some.field-0-is at c.in-Ok-Some.ensures.more) (rw c.in-Ok-Some.field-0-is at c.in-Ok-Some.ensures.next) (rw c.in-Ok-true.field-0-test at c.in-Ok-true.ensures.lays) c.loop-lines.invariant.up_to;
+  most = c.lay.ensures.most ∙ c.loop-lines.invariant.most;
+  no_fall = omega (arith, c.loop-lines.invariant.no_fall, c.next_event.ensures.no_fall);
+}
+
+pub returns-in-Ok-false-clause-end : goal.returns-in-Ok-false-clause-end
+returns-in-Ok-false-clause-end g c = λ limits same.
+    ends_full (g.S.Source.left c.args.source.now) (g.S.Source.left c.loop-lines.source) (g.S.Source.left c.next_event.new.source) _ c.loop-lines.lines c.next_event.new.lines c.loop-lines.pairs c.lay.new.pairs c.in-Ok-Some.event limits same
+    c.loop-lines.invariant.most (rw c.in-Ok-Some.field-0-is at c.in-Ok-Some.ensures.more) (rw c.in-Ok-Some.field-0-is at c.in-Ok-Some.ensures.next) (rw c.in-Ok-false.field-0-test at c.in-Ok-false.ensures.lays) c.loop-lines.invariant.up_to
+
+pub returns-in-Err-Syntax-clause-end : goal.returns-in-Err-Syntax-clause-end
+returns-in-Err-Syntax-clause-end g c = λ limits same.
+    ends_unread (g.S.Source.left c.args.source.now) (g.S.Source.left c.loop-lines.source) (g.S.Source.left c.next_event.new.source) _ c.number.result c.loop-lines.lines c.next_event.new.lines c.loop-lines.pairs.state limits same
+    (c.number.ensures ∙ c.next_event.ensures.number) c.loop-lines.invariant.up_to (rw c.in-Err-Syntax.field-0-is at c.in-Err-Syntax.ensures.next)

@@ -1,0 +1,45 @@
+ghost use Rattle.std.specs.Prelude.{◌≡◌, ◌+◌, ◌≤◌, ◌++◌, Err, IfOk, IfSome};
+ghost use Rattle.base_core.specs.Faults.{Rose};
+ghost use Rattle.shard_cmd.specs.Events.{NextIs, IsNext, SetsPair};
+ghost use Rattle.script_io.specs.Shown.{event};
+
+use script_io::{Event, EventError, LineError, Lines, Source, read_event};
+use std::alloc::Global;
+
+/// Why there is no next event.
+#[derive(Clone, Copy, Debug, PartialEq, Eq)]
+pub enum Stop {
+    /// The line is none of a script.
+    Syntax,
+    /// The source failed.
+    ReadFault,
+    /// There was no memory.
+    NoMemory,
+}
+
+/// What the next line of a script asks for, or nothing at the end of the input.
+pub fn next_event<S: Source>(
+    alloc: Global,
+    lines: &mut Lines,
+    source: &mut S,
+) -> Result<Option<Event>, Stop>
+    ensures next { IfSome (S.left source.old) (λ left. NextIs (lines.old.pending ++ left) lines.old lines.new (S.left source.new) result) }
+    ensures within { IfOk result (λ found. IfSome found (λ asked. SetsPair (event asked))) }
+    ensures number { lines.new.number ≡ lines.old.lines + 1 }
+    ensures more { IfOk result (λ found. IfSome found (λ _. IsNext lines.old lines.new)) }
+    ensures no_fall { S.faults source.old ≤ S.faults source.new }
+    ensures rose { result ≡ Err Stop.ReadFault → Rose (S.faults source.old) (S.faults source.new) }
+{
+    match lines.next(source) {
+        Ok(Some(line)) => match read_event(alloc, line) {
+            Ok(event) => Ok(Some(event)),
+            Err(EventError::Bad) => Err(Stop::Syntax),
+            Err(EventError::NoMemory) => Err(Stop::NoMemory),
+        },
+        Ok(None) => Ok(None),
+        Err(LineError::Long) => Err(Stop::Syntax),
+        Err(LineError::Past) => Err(Stop::Syntax),
+        Err(LineError::ReadFault) => Err(Stop::ReadFault),
+        Err(LineError::NoMemory) => Err(Stop::NoMemory),
+    }
+}
