@@ -5,5 +5,4 @@ ghost use Rattle.script_model.specs.Lines.{event_of, set};
 /// What a line sets is a pair of a state: bytes, within the limits of keys and values.
 pub fn set_line_is_a_pair()
     ensures { (line key value : List ℕ) → event_of line ≡ Some (set key value) → IsPair (key, value) }
-{
-}
+{}
