@@ -1,5 +1,5 @@
 -- The children of a branch, one place after another.
-use Rattle.std.proofs.Common.{ℕ, zero, suc, ◌+◌, ◌*◌, ◌%◌, ◌^◌, ◌<◌, ◌≤◌, ◌≡◌, Bool, true, false, cond, List, [], ◌∷◌, ◌++◌, length, take, get_or, Option, None, Some, refl, ap, sym, ◌∙◌, arith, add-one, bit_or}
+use Rattle.std.proofs.Common.{ℕ, zero, suc, ◌+◌, ◌*◌, ◌%◌, ◌^◌, ◌<◌, ◌≤◌, ◌≡◌, Bool, true, false, cond, List, ◌++◌, length, take, get_or, Option, None, Some, refl, ap, sym, ◌∙◌, arith, add-one, bit_or}
 use Rattle.std.specs.Option.{is_some, option_map}
 use Rattle.std.specs.List.{count_by}
 use Rattle.std.proofs.Math.Nat.{two-pow-succ, mod-eq_of_lt}

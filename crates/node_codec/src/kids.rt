@@ -21,6 +21,7 @@ impl Model for Kids {
 }
 
 impl Kids {
+    /// No child at all.
     pub const NONE: Kids = Kids {
         digests: [None; 16],
     };

@@ -70,13 +70,17 @@ fn branch_with_value(
     Ok(write_node(alloc, &node, usage)?)
 }
 
-fn name_of(record: &Text) -> [u8; 64] {
-    let mut name = [0; 64];
-    digest(record.as_slice()).to_hex_into(&mut name);
-    name
+/// How a record begins, how long it is, and its SHA-256.
+fn expect(rt: &impl Abort, record: &Text, start: &[u8], length: usize, name: &str) {
+    let bytes = record.as_slice();
+    assert!(rt; bytes.starts_with(start), "{name}");
+    assert_eq!(rt; bytes.len(), length, "{name}");
+    let mut shown = [0; 64];
+    digest(bytes).to_hex_into(&mut shown);
+    assert_eq!(rt; shown.as_slice(), name.as_bytes());
 }
 
-/// The children 0 to 15 with the keys 00, 10 .. f0 and the values 00, 01 .. 0f.
+/// The children 0 to 15 of the keys 00, 10 .. f0 with the values 00, 01 .. 0f.
 fn sixteen(alloc: Global) -> Result<Kids, AllocError> {
     let mut kids = Kids::NONE;
     for i in 0..16 {
@@ -86,98 +90,98 @@ fn sixteen(alloc: Global) -> Result<Kids, AllocError> {
     Ok(kids)
 }
 
-/// How a record begins, how long it is, and its SHA-256.
 #[test]
-fn records(rt: HostRuntime) -> Result<(), Fail> {
-    let alloc = rt.alloc();
-    let a = leaf(alloc, &[], b"a", 103)?;
-    let b = leaf(alloc, &[], b"b", 103)?;
-    let odd = leaf(alloc, &[2], b"b", 103)?;
+fn leaves(rt: HostRuntime) -> Result<(), Fail> {
+    let even = leaf(rt.alloc(), &[6, 1], b"hi", 106)?;
+    expect(
+        &rt,
+        &even,
+        b"\x00\x02\x00\x00\x00\x20\x61\x02\x00\x00\x00",
+        51,
+        "c6d20f554d697a121ebc84350e46da9e3bb4e3c08d5f67204156fc6661069cc0",
+    );
+    let odd = leaf(rt.alloc(), &[2], b"b", 103)?;
+    expect(
+        &rt,
+        &odd,
+        b"\x00\x01\x00\x00\x00\x32\x01\x00\x00\x00",
+        50,
+        "8045d9378b51ee0c1899135a9e0a1fc415a94c1a2b9fd786cdbf6080cd538bbf",
+    );
+    Ok(())
+}
 
-    let mut two = Kids::NONE;
-    two.set(1, Some(digest(a.as_slice())));
-    two.set(2, Some(digest(b.as_slice())));
-    let two = branch(&rt, alloc, two, 256)?;
+#[test]
+fn under_an_odd_extension(rt: HostRuntime) -> Result<(), Fail> {
+    let a = leaf(rt.alloc(), &[], b"a", 103)?;
+    let b = leaf(rt.alloc(), &[], b"b", 103)?;
+    let mut kids = Kids::NONE;
+    kids.set(1, Some(digest(a.as_slice())));
+    kids.set(2, Some(digest(b.as_slice())));
+    let two = branch(&rt, rt.alloc(), kids, 256)?;
+    expect(
+        &rt,
+        &two,
+        b"\x01\x06\x00",
+        75,
+        "4bfc93a2a8a1dc2a26a673dd18f202d186ddd556fd274551f2768c63eae8b3d3",
+    );
+    let root = extension(rt.alloc(), &[6], &two, 308)?;
+    expect(
+        &rt,
+        &root,
+        b"\x03\x01\x00\x00\x00\x16",
+        46,
+        "06481f83918f99a3be485a586d16b56c10a9d578353d60e887baa5f9c389262e",
+    );
+    Ok(())
+}
 
-    let mut one = Kids::NONE;
-    one.set(6, Some(digest(odd.as_slice())));
-    let one = branch_with_value(&rt, alloc, b"a", one, 204)?;
+#[test]
+fn under_an_even_extension(rt: HostRuntime) -> Result<(), Fail> {
+    let last = leaf(rt.alloc(), &[2], b"b", 103)?;
+    let mut kids = Kids::NONE;
+    kids.set(6, Some(digest(last.as_slice())));
+    let one = branch_with_value(&rt, rt.alloc(), b"a", kids, 204)?;
+    expect(
+        &rt,
+        &one,
+        b"\x02\x01\x00\x00\x00",
+        79,
+        "c76f3edfcbee3c342ec5bb228cf8eda313a45bedcf18973a8b2e2d3ddc214622",
+    );
+    let root = extension(rt.alloc(), &[6, 1], &one, 258)?;
+    expect(
+        &rt,
+        &root,
+        b"\x03\x02\x00\x00\x00\x00\x61",
+        47,
+        "6e36cff03296388deeb24640de825a7358e4fc5165c2484c07240ba01b78f13e",
+    );
+    Ok(())
+}
 
-    let all = sixteen(alloc)?;
+#[test]
+fn many_children(rt: HostRuntime) -> Result<(), Fail> {
+    let kids = sixteen(rt.alloc())?;
     let mut ends = Kids::NONE;
-    ends.set(0, all.get(0));
-    ends.set(15, all.get(15));
-
-    let table: [(Text, &[u8], usize, &str); 10] = [
-        // a leaf with an even path, with none and with an odd one
-        (
-            leaf(alloc, &[6, 1], b"hi", 106)?,
-            b"\x00\x02\x00\x00\x00\x20\x61\x02\x00\x00\x00",
-            51,
-            "c6d20f554d697a121ebc84350e46da9e3bb4e3c08d5f67204156fc6661069cc0",
-        ),
-        (
-            a,
-            b"\x00\x01\x00\x00\x00\x20\x01\x00\x00\x00",
-            50,
-            "fe06fdd02ac135f8869cb25908b95a465cafe090595f00d942f9df2ddc1042e4",
-        ),
-        (
-            odd,
-            b"\x00\x01\x00\x00\x00\x32\x01\x00\x00\x00",
-            50,
-            "8045d9378b51ee0c1899135a9e0a1fc415a94c1a2b9fd786cdbf6080cd538bbf",
-        ),
-        // an extension with an odd path and with an even one
-        (
-            extension(alloc, &[6], &two, 308)?,
-            b"\x03\x01\x00\x00\x00\x16",
-            46,
-            "06481f83918f99a3be485a586d16b56c10a9d578353d60e887baa5f9c389262e",
-        ),
-        (
-            extension(alloc, &[6, 1], &one, 258)?,
-            b"\x03\x02\x00\x00\x00\x00\x61",
-            47,
-            "6e36cff03296388deeb24640de825a7358e4fc5165c2484c07240ba01b78f13e",
-        ),
-        // a branch with the children 1 and 2, with 0 and 15, and with all
-        (
-            two,
-            b"\x01\x06\x00",
-            75,
-            "4bfc93a2a8a1dc2a26a673dd18f202d186ddd556fd274551f2768c63eae8b3d3",
-        ),
-        (
-            branch(&rt, alloc, ends, 256)?,
-            b"\x01\x01\x80",
-            75,
-            "15c752ca55684ed8c53b80ce2caef79a59d594dc39dd2d3c2c1be63b54bf5e64",
-        ),
-        (
-            branch(&rt, alloc, all, 1698)?,
-            b"\x01\xff\xff",
-            523,
-            "28e5cbe540dc6bbe285c984e47a76b7538373369c53dd63016414ba8a1b3ffe4",
-        ),
-        // a branch with a value and one child, and with all
-        (
-            one,
-            b"\x02\x01\x00\x00\x00",
-            79,
-            "c76f3edfcbee3c342ec5bb228cf8eda313a45bedcf18973a8b2e2d3ddc214622",
-        ),
-        (
-            branch_with_value(&rt, alloc, b"top", sixteen(alloc)?, 1751)?,
-            b"\x02\x03\x00\x00\x00",
-            559,
-            "158104ab58f145a0d50d53467fee3856c10cca4df559780a29d36900086151c8",
-        ),
-    ];
-    for (record, start, length, name) in table {
-        assert!(rt; record.as_slice().starts_with(start), "{name}");
-        assert_eq!(rt; record.as_slice().len(), length, "{name}");
-        assert_eq!(rt; name_of(&record).as_slice(), name.as_bytes());
-    }
+    ends.set(0, kids.get(0));
+    ends.set(15, kids.get(15));
+    let ends = branch(&rt, rt.alloc(), ends, 256)?;
+    expect(
+        &rt,
+        &ends,
+        b"\x01\x01\x80",
+        75,
+        "15c752ca55684ed8c53b80ce2caef79a59d594dc39dd2d3c2c1be63b54bf5e64",
+    );
+    let all = branch_with_value(&rt, rt.alloc(), b"top", kids, 1751)?;
+    expect(
+        &rt,
+        &all,
+        b"\x02\x03\x00\x00\x00",
+        559,
+        "158104ab58f145a0d50d53467fee3856c10cca4df559780a29d36900086151c8",
+    );
     Ok(())
 }

@@ -1,9 +1,9 @@
 use base_core::Digest;
 
-/// How a node names a value.
+/// How a node names a value: by its length and its SHA-256.
 #[derive(Clone, Copy, Debug, PartialEq, Eq)]
 pub struct ValueRef {
-    /// The bytes of the value.
+    /// In bytes.
     pub length: u32,
     pub digest: Digest,
 }

@@ -14,6 +14,7 @@ use base_core::{Digest, Text, Writer};
 use nibble_keys::{packed_len, put_packed};
 use std::alloc::{AllocError, Global};
 
+// The ordinals of the records.
 const LEAF: u8 = 0;
 
 const BRANCH: u8 = 1;
@@ -22,14 +23,17 @@ const BRANCH_WITH_VALUE: u8 = 2;
 
 const EXTENSION: u8 = 3;
 
-/// The bytes of a digest, of a value's length and digest, and of a usage.
+/// Bytes of a digest.
 const DIGEST_BYTES: usize = 32;
 
+/// Bytes of a value's length and digest.
 const VALUE_BYTES: usize = 36;
 
+/// Bytes of a usage.
 const USAGE_BYTES: usize = 8;
 
-/// Writes the record of a node whose subtree has this usage.
+/// The record of a node whose subtree has this usage, made in one buffer of its size. The only
+/// error is want of memory.
 pub fn write_node(alloc: Global, node: &Node, usage: u64) -> Result<Text, AllocError>
     requires nibbles { AreNibbles (path_of node.now) }
     requires short { length (path_of node.now) ≤ longest_path }
