@@ -12,6 +12,7 @@ fn copies(alloc: Global, byte: u8, count: usize) -> Result<Vec<u8>, AllocError> 
     vec![in alloc; byte; count]
 }
 
+/// Reads the lines of an input in pieces.
 fn expect_lines(
     rt: &impl Abort,
     alloc: Global,
@@ -264,6 +265,7 @@ fn hexadecimal_digits(rt: HostRuntime) -> Result<(), Fail> {
     Ok(())
 }
 
+/// A reader whose every read fails.
 #[derive(Drop)]
 struct Broken;
 
