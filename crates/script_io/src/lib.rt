@@ -28,3 +28,6 @@ pub use output::{put, put_hex, put_number};
 pub use sink::Sink;
 pub use source::Source;
 pub use std_streams::{StdSink, StdSource};
+
+#[cfg(test)]
+mod tests;

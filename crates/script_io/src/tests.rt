@@ -1,0 +1,295 @@
+ghost use Rattle.std.specs.Prelude.{◌≤◌};
+
+use super::*;
+use base_core::{Fault, Text};
+use std::alloc::{AllocError, Global};
+use std::io;
+use std::io::{ErrorKind, Read};
+use std::process::Abort;
+use std::test::Fail;
+
+fn copies(alloc: Global, byte: u8, count: usize) -> Result<Vec<u8>, AllocError> {
+    vec![in alloc; byte; count]
+}
+
+/// Reads the lines of an input in pieces.
+fn expect_lines(
+    rt: &impl Abort,
+    alloc: Global,
+    input: &[u8],
+    piece: u64,
+    want: &[&[u8]],
+) -> Result<(), Fail>
+    requires { 1 ≤ piece }
+{
+    let mut source = MemSource::new(alloc, input, piece, &[])?;
+    let mut lines = Lines::new(alloc);
+    assert_eq!(rt; lines.number(), 0);
+    for (i, line) in want.iter().enumerate() {
+        assert_eq!(rt; lines.next(&mut source)?, Some(*line), "{input:?}");
+        assert_eq!(rt; lines.number(), i as u64 + 1, "{input:?}");
+    }
+    assert!(rt; lines.next(&mut source)?.is_none(), "{input:?}");
+    Ok(())
+}
+
+#[test]
+fn lines_in_any_pieces(rt: HostRuntime) -> Result<(), Fail> {
+    let alloc = rt.alloc();
+    let table: [(&[u8], &[&[u8]]); 7] = [
+        (b"", &[]),
+        (b"\n", &[b""]),
+        (b"\n\n", &[b"", b""]),
+        (
+            b"# a comment\n\nset 61 -\n",
+            &[b"# a comment", b"", b"set 61 -"],
+        ),
+        (
+            b"the last line feed\nis missing",
+            &[b"the last line feed", b"is missing"],
+        ),
+        (b"one\r\ntwo\r", &[b"one\r", b"two\r"]),
+        (b"seven_b\neightby\n\0", &[b"seven_b", b"eightby", b"\0"]),
+    ];
+    for (input, want) in table {
+        for piece in [1, 7, 65536] {
+            expect_lines(&rt, alloc, input, piece, want)?;
+        }
+    }
+    Ok(())
+}
+
+#[test]
+fn longest_line(rt: HostRuntime) -> Result<(), Fail> {
+    let alloc = rt.alloc();
+    let mut input = copies(alloc, b'x', 8400000)?;
+    expect_lines(&rt, alloc, input.as_slice(), 65536, &[input.as_slice()])?;
+
+    input.push(b'x')?;
+    let mut source = MemSource::new(alloc, input.as_slice(), 65536, &[])?;
+    let mut lines = Lines::new(alloc);
+    for _ in 0..2 {
+        assert!(&rt; matches!(lines.next(&mut source), Err(LineError::Long)));
+        assert_eq!(&rt; lines.number(), 1);
+    }
+    Ok(())
+}
+
+/// The second and the fourth read fail. The line is handed out when it is asked for again.
+#[test]
+fn source_fails(rt: HostRuntime) -> Result<(), Fail> {
+    let alloc = rt.alloc();
+    let mut source = MemSource::new(alloc, b"ab\ncd", 2, &[2, 4])?;
+    let mut lines = Lines::new(alloc);
+    for (number, line) in [(1, b"ab"), (2, b"cd")] {
+        assert!(rt; matches!(lines.next(&mut source), Err(LineError::ReadFault)));
+        assert_eq!(rt; lines.number(), number);
+        assert_eq!(rt; lines.next(&mut source)?, Some(line.as_slice()));
+        assert_eq!(rt; lines.number(), number);
+    }
+    assert!(rt; lines.next(&mut source)?.is_none());
+    Ok(())
+}
+
+fn expect_set(
+    rt: &impl Abort,
+    alloc: Global,
+    line: &[u8],
+    want_key: &[u8],
+    want_value: &[u8],
+) -> Result<(), Fail> {
+    match read_event(alloc, line)? {
+        Event::Nothing => assert!(rt; false, "{line:?}"),
+        Event::Set { key, value } => {
+            assert_eq!(rt; key.as_slice(), want_key, "{line:?}");
+            assert_eq!(rt; value.as_slice(), want_value, "{line:?}");
+        }
+    }
+    Ok(())
+}
+
+#[test]
+fn set_lines(rt: HostRuntime) -> Result<(), Fail> {
+    let alloc = rt.alloc();
+    let table: [(&[u8], &[u8], &[u8]); 4] = [
+        (b"set 61 6869", b"a", b"hi"),
+        (b"set - -", b"", b""),
+        (b"set 00 -", b"\0", b""),
+        (b"set aB fFFf", b"\xab", b"\xff\xff"),
+    ];
+    for (line, key, value) in table {
+        expect_set(&rt, alloc, line, key, value)?;
+    }
+    Ok(())
+}
+
+#[test]
+fn other_lines(rt: HostRuntime) -> Result<(), Fail> {
+    let alloc = rt.alloc();
+    for line in [b"".as_slice(), b"#", b"# set  61", b"#\xff"] {
+        assert!(rt;
+            matches!(read_event(alloc, line), Ok(Event::Nothing)),
+            "{line:?}"
+        );
+    }
+    let bad: [&[u8]; 15] = [
+        b" ",
+        b"set",
+        b"set 61",
+        b"set 61 62 63",
+        b"set  61 62",
+        b"set 61  62",
+        b" set 61 62",
+        b"set 61 62 ",
+        b"set\t61 62",
+        b"Set 61 62",
+        b"set 61 62\r",
+        b"# comment\r",
+        b"set 6 62",
+        b"set 61 6g",
+        b"set 61 ",
+    ];
+    for line in bad {
+        assert!(rt;
+            matches!(read_event(alloc, line), Err(EventError::Bad)),
+            "{line:?}"
+        );
+    }
+    Ok(())
+}
+
+/// The line that sets the value of a key to no bytes.
+fn set_line(alloc: Global, key: &[u8]) -> Result<Buffer, Fault> {
+    let mut line = Buffer::new(alloc);
+    put(&mut line, b"set ")?;
+    put_hex(&mut line, key)?;
+    put(&mut line, b" -")?;
+    Ok(line)
+}
+
+#[test]
+fn longest_key(rt: HostRuntime) -> Result<(), Fail> {
+    let alloc = rt.alloc();
+    let key = copies(alloc, 7, 2114)?;
+    let line = set_line(alloc, key.as_slice())?;
+    expect_set(&rt, alloc, line.bytes(), key.as_slice(), b"")?;
+    let key = copies(alloc, 7, 2115)?;
+    let line = set_line(alloc, key.as_slice())?;
+    assert!(rt; matches!(read_event(alloc, line.bytes()), Err(EventError::Bad)));
+    Ok(())
+}
+
+fn expect_root(rt: &impl Abort, alloc: Global, words: &[&[u8]], want: bool) -> Result<(), Fail> {
+    let mut texts = Vec::new(alloc);
+    for word in words {
+        texts.push(Text::copy(alloc, word)?)?;
+    }
+    match read_command(alloc, texts.as_slice()) {
+        Ok(Command::Root) => assert!(rt; want, "{words:?}"),
+        Err(error) => {
+            assert!(rt; matches!(error, CommandError::Bad), "{words:?}");
+            assert!(rt; !want, "{words:?}");
+        }
+    }
+    Ok(())
+}
+
+#[test]
+fn commands(rt: HostRuntime) -> Result<(), Fail> {
+    let alloc = rt.alloc();
+    let table: [(&[&[u8]], bool); 6] = [
+        (&[b"root"], true),
+        (&[], false),
+        (&[b""], false),
+        (&[b"Root"], false),
+        (&[b"roots"], false),
+        (&[b"root", b""], false),
+    ];
+    for (words, want) in table {
+        expect_root(&rt, alloc, words, want)?;
+    }
+    Ok(())
+}
+
+/// A sink of so many bytes takes them in pieces, and the third write fails where `fails` is 3.
+#[test]
+fn writes_in_pieces(rt: HostRuntime) -> Result<(), Fail> {
+    let alloc = rt.alloc();
+    let table: [(u64, u64, u64, bool, &[u8]); 6] = [
+        (9, 1, 0, true, b"abcdefg"),
+        (7, 4, 0, true, b"abcdefg"),
+        (7, 9, 0, true, b"abcdefg"),
+        (6, 4, 0, false, b"abcdef"),
+        (9, 2, 3, false, b"abcd"),
+        (0, 1, 0, false, b""),
+    ];
+    for (most, piece, fails, done, want) in table {
+        let mut sink = MemSink::new(alloc, most, piece, &[fails])?;
+        assert_eq!(rt; put(&mut sink, b"abcdefg").is_ok(), done, "{want:?}");
+        assert_eq!(rt; sink.bytes(), want);
+        assert!(rt; put(&mut sink, b"").is_ok(), "no write");
+    }
+    Ok(())
+}
+
+#[test]
+fn numbers(rt: HostRuntime) -> Result<(), Fail> {
+    let mut buffer = Buffer::new(rt.alloc());
+    for n in [0, 9, 10, 100, u64::MAX] {
+        put_number(&mut buffer, n)?;
+        put(&mut buffer, b" ")?;
+    }
+    assert_eq!(rt;
+        buffer.bytes(),
+        b"0 9 10 100 18446744073709551615 ".as_slice()
+    );
+    Ok(())
+}
+
+#[test]
+fn hexadecimal_digits(rt: HostRuntime) -> Result<(), Fail> {
+    let alloc = rt.alloc();
+    let mut buffer = Buffer::new(alloc);
+    put_hex(&mut buffer, b"")?;
+    put_hex(&mut buffer, b"\x00\xff\x1a")?;
+    assert_eq!(rt; buffer.bytes(), b"-00ff1a".as_slice());
+
+    // More bytes than are spelled at a time.
+    let mut bytes = copies(alloc, 0xa5, 1024)?;
+    bytes.push(0x0f)?;
+    let mut sink = MemSink::new(alloc, 2050, 100, &[])?;
+    put_hex(&mut sink, bytes.as_slice())?;
+    assert_eq!(rt; sink.bytes().len(), 2050);
+    assert!(rt; sink.bytes().starts_with(b"a5a5"));
+    assert!(rt; sink.bytes().ends_with(b"a5a50f"));
+    Ok(())
+}
+
+/// A reader whose every read fails.
+#[derive(Drop)]
+struct Broken;
+
+impl Read for Broken {
+    fn read(&mut self, _: &mut [u8]) -> io::Result<usize> {
+        Err(io::Error::from(ErrorKind::Other))
+    }
+}
+
+#[test]
+fn streams_of_std(rt: HostRuntime) -> Result<(), Fail> {
+    let alloc = rt.alloc();
+    let mut source = StdSource::new(b"one\ntwo".as_slice());
+    let mut lines = Lines::new(alloc);
+    assert_eq!(rt; lines.next(&mut source)?, Some(b"one".as_slice()));
+    assert_eq!(rt; lines.next(&mut source)?, Some(b"two".as_slice()));
+    assert!(rt; lines.next(&mut source)?.is_none());
+    let mut source = StdSource::new(Broken);
+    assert!(rt; matches!(lines.next(&mut source), Err(LineError::ReadFault)));
+
+    let mut bytes = [0; 3];
+    let mut sink = StdSink::new(bytes.as_mut_slice());
+    put(&mut sink, b"ab")?;
+    assert!(rt; put(&mut sink, b"cd").is_err(), "no room");
+    assert_eq!(rt; bytes, *b"abc");
+    Ok(())
+}
