@@ -1,11 +1,13 @@
 -- Pairs seen as rows from a depth on.
-use Rattle.std.proofs.Common.{◌≡◌, ℕ, zero, suc, ◌+◌, ◌<◌, ◌≤◌, Bool, true, false, List, [], ◌∷◌, length, drop, get_or, None, Some, option_map, if◌then◌else◌, refl, sym, ◌∙◌, ap, subst, arith}
-use Rattle.std.proofs.Math.Seq.{drop-cons}
+use Rattle.std.proofs.Common.{◌≡◌, ℕ, zero, suc, ◌<◌, ◌≤◌, ◌==◌, Bool, true, false, List, [], ◌∷◌, length, drop, get_or, None, Some, option_map, if◌then◌else◌, inl, inr, refl, sym, ◌∙◌, ap, subst, arith}
+use Rattle.std.specs.List.{AllByRecursion}
+use Rattle.std.specs.List.Sorted.{IsPartitionedBy, IsPartitionPoint}
 use Rattle.byte_model.specs.Nibbles.{nibbles}
 use Rattle.trie_model.specs.State.{Row}
 use Rattle.trie_model.specs.Tree.{below, ends_here}
 use Rattle.trie_model.specs.Texts.{value_ref}
-use Rattle.trie_shape.specs.Runs.{StartsFrom, AllFrom, goes_on, run_of}
+use Rattle.trie_model.proofs.Rests.{equal_of_test}
+use Rattle.trie_shape.specs.Runs.{IsBelow, Rises, StartsFrom, AllFrom, goes_on, run_of}
 use Rattle.trie_shape.specs.Seen.{Lent, row_at, seen, AreRowsAt, IsLeft}
 use Rattle.trie_shape.proofs.Rising.{all-behind, none-ends, ends-first, below-first}
 
@@ -19,29 +21,36 @@ run_of-nil : (x : ℕ) → run_of x [] ≡ 0
 unfolding run_of
 run_of-nil x = refl
 
-module _ (x depth : ℕ) (rows : List Lent) (i : ℕ) (d : Lent) where
-  run-here : i < length rows → run_of x (seen depth (drop i rows)) ≡ (if goes_on x (row_at depth (get_or rows i d)).0 then suc (run_of x (seen depth (drop (suc i) rows))) else 0)
-  run-here h = ap (λ (rs : List Lent). run_of x (seen depth rs)) (drop-cons rows i d h) ∙ run_of-cons x (row_at depth (get_or rows i d)) (seen depth (drop (suc i) rows))
+-- the row at a place, of rows of which this holds
+each_at : (P : Row → Type 0) (depth : ℕ) (rows : List Lent) (j : ℕ) (d : Lent) → j < length rows → AllByRecursion P (seen depth rows) → P (row_at depth (get_or rows j d))
+each_at P depth [] j d h all = absurd (omega arith)
+each_at P depth (row ∷ rows) zero d h all = all.0
+each_at P depth (row ∷ rows) (suc j) d h all = each_at P depth rows j d (omega arith) all.1
 
-  pub run-on : i < length rows → goes_on x (row_at depth (get_or rows i d)).0 ≡ true → run_of x (seen depth rows) ≡ i + run_of x (seen depth (drop i rows)) → run_of x (seen depth rows) ≡ (i + 1) + run_of x (seen depth (drop (i + 1) rows))
-  run-on h goes so_far =
-      let here = run-here h ∙ ap (λ (b : Bool). if b then suc (run_of x (seen depth (drop (suc i) rows))) else 0) goes in
-      let one : i + 1 ≡ suc i = omega arith in
-      let next = ap (λ n. run_of x (seen depth (drop n rows))) one in
-      omega arith
+-- a path below one that goes on with the lowest nibble goes on with it too
+first_of : (x : ℕ) (p q : List ℕ) → StartsFrom x p → IsBelow p q → goes_on x q ≡ true → goes_on x p ≡ true
+first_of x [] q from below goes = absurd from
+first_of x (y ∷ p) [] from below goes = absurd below
+first_of x (y ∷ p) (z ∷ q) from (inl less) goes = let same = equal_of_test x z goes in absurd (omega arith)
+first_of x (y ∷ p) (z ∷ q) from (inr e) goes = subst (λ w. (x == w) ≡ true) (sym e.0) goes
 
-  pub run-stop : i < length rows → goes_on x (row_at depth (get_or rows i d)).0 ≡ false → run_of x (seen depth rows) ≡ i + run_of x (seen depth (drop i rows)) → i ≡ run_of x (seen depth rows)
-  run-stop h stops so_far =
-      let here = run-here h ∙ ap (λ (b : Bool). if b then suc (run_of x (seen depth (drop (suc i) rows))) else 0) stops in
-      omega arith
+-- rising rows go on with the lowest nibble up to some place
+pub parted : (x depth : ℕ) (rows : List Lent) → Rises (seen depth rows) → AllFrom x (seen depth rows) → IsPartitionedBy (λ row. goes_on x (row_at depth row).0) rows
+parted x depth [] rises from i j d le h goes = absurd (omega arith)
+parted x depth (row ∷ rows) rises from zero zero d le h goes = goes
+parted x depth (row ∷ rows) rises from zero (suc j) d le h goes =
+    first_of x (row_at depth row).0 (row_at depth (get_or rows j d)).0 from.0 (each_at (λ other. IsBelow (row_at depth row).0 other.0) depth rows j d (omega arith) rises.0) goes
+parted x depth (row ∷ rows) rises from (suc i) zero d le h goes = absurd (omega arith)
+parted x depth (row ∷ rows) rises from (suc i) (suc j) d le h goes = parted x depth rows rises.1 from.1 i j d (omega arith) (omega arith) goes
 
-nothing_left : (rows : List Lent) → drop (length rows) rows ≡ []
-nothing_left [] = refl
-nothing_left (row ∷ rows) = nothing_left rows
-
-pub run-all : (x depth : ℕ) (rows : List Lent) (i : ℕ) → i ≡ length rows → run_of x (seen depth rows) ≡ i + run_of x (seen depth (drop i rows)) → length rows ≡ run_of x (seen depth rows)
-run-all x depth rows i e so_far =
-    let none = ap (λ n. run_of x (seen depth (drop n rows))) e ∙ ap (λ (rs : List Lent). run_of x (seen depth rs)) (nothing_left rows) ∙ run_of-nil x in
+pub point-run : (x depth : ℕ) (rows : List Lent) (i : ℕ) → i ≤ length rows
+    → IsPartitionPoint (λ row. goes_on x (row_at depth row).0 ≡ true) (λ row. goes_on x (row_at depth row).0 ≡ false) rows i → i ≡ run_of x (seen depth rows)
+point-run x depth [] i h point = let none = run_of-nil x in omega arith
+point-run x depth (row ∷ rows) zero h point =
+    sym (run_of-cons x (row_at depth row) (seen depth rows) ∙ ap (λ (b : Bool). if b then suc (run_of x (seen depth rows)) else 0) (point.1 0 row (omega arith) (omega arith)))
+point-run x depth (row ∷ rows) (suc i) h point =
+    let further = point-run x depth rows i (omega arith) (λ k d a l. point.0 (suc k) d (omega arith) (omega arith), λ k d a l. point.1 (suc k) d (omega arith) (omega arith)) in
+    let here = run_of-cons x (row_at depth row) (seen depth rows) ∙ ap (λ (b : Bool). if b then suc (run_of x (seen depth rows)) else 0) (point.0 0 row (omega arith) (omega arith)) in
     omega arith
 
 -- ---- the row that ends at a depth

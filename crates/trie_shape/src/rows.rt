@@ -4,7 +4,7 @@ ghost use Rattle.byte_model.specs.Node.{longest_value};
 ghost use Rattle.trie_model.specs.Tree.{common, ends_here};
 ghost use Rattle.trie_model.specs.Texts as texts;
 ghost use Rattle.node_codec.specs.Shown.{value_of};
-ghost use Rattle.trie_shape.specs.Runs.{goes_on, run_of};
+ghost use Rattle.trie_shape.specs.Runs.{Rises, AllFrom, goes_on, run_of};
 ghost use Rattle.trie_shape.specs.Seen.{seen, AreRowsAt, IsLeft};
 
 use base_core::{Text, Writer, digest};
@@ -70,23 +70,19 @@ pub(crate) fn ending<'a, 'b>(rows: &'a [Row<'b>], depth: u64) -> (Option<ValueRe
     }
 }
 
-/// How many rows from the front on go on with a nibble at a depth.
+/// How many rows go on with a nibble at a depth, where none goes on with a lower one. They are the
+/// first ones, so the place where they end is searched for.
 pub(crate) fn run_length(rows: &[Row<'_>], depth: u64, nibble: u8) -> usize
-    requires { AreRowsAt depth rows.now }
+    requires rises { Rises (seen depth rows.now) }
+    requires from { AllFrom nibble (seen depth rows.now) }
     ensures { result ≡ run_of nibble (seen depth rows.now) }
 {
-    for (i, (key, _)) in rows.iter().enumerate() {
-        if !goes_on(key, depth, nibble) {
-            return i;
-        }
-    }
-    rows.len()
+    rows.partition_point(|(key, _)| goes_on(key, depth, nibble))
 }
 
 fn goes_on(key: &[u8], depth: u64, nibble: u8) -> bool
-    requires { depth ≤ length (nibbles key.now) }
     ensures { result ≡ goes_on nibble (drop depth (nibbles key.now)) }
 {
-    let path = Nibbles::new(key).rest(depth);
-    path.len() > 0 && path.at(0) == nibble
+    let path = Nibbles::new(key);
+    depth < path.len() && path.at(depth) == nibble
 }

@@ -1,12 +1,11 @@
-use Rattle.std.proofs.Common.{◌≡◌, length, sym, ◌∙◌, arith}
-use Rattle.trie_shape.proofs.SeenLemmas.{run-on, run-stop, run-all}
+use Rattle.std.proofs.Common.{rules}
+use Rattle.std.proofs.lemmas.List.Sorted.{IsPartitionPoint-from_clause}
+use Rattle.trie_shape.specs.Runs.{goes_on}
+use Rattle.trie_shape.specs.Seen.{row_at}
+use Rattle.trie_shape.proofs.SeenLemmas.{parted, point-run}
 use Rattle.trie_shape.proofs.rows.run_length.Goals as goal
 
-pub returns-then-not-goes_on : goal.returns-then-not-goes_on
-returns-then-not-goes_on c = run-stop c.args.nibble c.args.depth c.args.rows.now c.loop-i.i _ c.loop-i-test.true (sym c.goes_on.ensures ∙ c.if-not-goes_on.true) c.loop-i.invariant
-
-pub loop-i-preserved : goal.loop-i-preserved
-loop-i-preserved c = run-on c.args.nibble c.args.depth c.args.rows.now c.loop-i.i _ c.loop-i-test.true (sym c.goes_on.ensures ∙ c.if-not-goes_on.false) c.loop-i.invariant
-
 pub returns : goal.returns
-returns c = let all : c.loop-i.i ≡ length c.args.rows.now = omega arith in run-all c.args.nibble c.args.depth c.args.rows.now c.loop-i.i all c.loop-i.invariant
+returns c =
+    point-run c.args.nibble c.args.depth c.args.rows.now c.partition_point.result c.partition_point.ensures.bound
+    (IsPartitionPoint-from_clause (λ row. goes_on c.args.nibble (row_at c.args.depth row).0) _ _ c.partition_point.ensures.partitioned (parted c.args.nibble c.args.depth c.args.rows.now c.requires.rises c.requires.from) (λ a r q k. search rules))
