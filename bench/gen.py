@@ -3,7 +3,9 @@
 
     gen.py FORM [PAIRS] [SEED]
 
-random     so many pairs with keys and values of 32 random bytes, in random order
+random     so many pairs in random order: a key is a zero byte and the name of an account, a name of
+           10 to 24 letters and digits with `.near` behind it or, of each four, one of 64 hexadecimal
+           digits; a value has 64 random bytes
 ascending  the same pairs with the keys ascending, so that the root is the same
 big        values of 4 MiB, 64 of them where PAIRS is left out
 nested     keys of 0 to 2,114 bytes, each a prefix of the next, in random order; PAIRS is 2,115
@@ -18,6 +20,7 @@ import sys
 
 LONGEST_KEY = 2114
 LONGEST_VALUE = 4194304
+LETTERS = "abcdefghijklmnopqrstuvwxyz0123456789"
 USUAL = {
     "random": 20000,
     "ascending": 20000,
@@ -33,7 +36,7 @@ def pairs_of(form, pairs, seed):
     dice = random.Random(seed)
     if form == "random":
         for _ in range(pairs):
-            yield dice.randbytes(32), dice.randbytes(32)
+            yield account_key(dice), dice.randbytes(64)
     elif form == "ascending":
         yield from sorted(pairs_of("random", pairs, seed))
     elif form == "big":
@@ -44,6 +47,14 @@ def pairs_of(form, pairs, seed):
         dice.shuffle(keys)
         for key in keys[:pairs]:
             yield key, dice.randbytes(32)
+
+
+def account_key(dice):
+    if dice.randrange(4) == 0:
+        name = dice.randbytes(32).hex()
+    else:
+        name = "".join(dice.choices(LETTERS, k=dice.randint(10, 24))) + ".near"
+    return b"\0" + name.encode()
 
 
 def nested_keys(dice, _):
