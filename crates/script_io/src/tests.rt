@@ -158,12 +158,13 @@ fn other_lines(rt: HostRuntime) -> Result<(), Fail> {
     Ok(())
 }
 
-/// The line that sets the value of a key to no bytes.
-fn set_line(alloc: Global, key: &[u8]) -> Result<Buffer, Fault> {
+/// The line that sets the value of a key.
+fn set_line(alloc: Global, key: &[u8], value: &[u8]) -> Result<Buffer, Fault> {
     let mut line = Buffer::new(alloc);
     put(&mut line, b"set ")?;
     put_hex(&mut line, key)?;
-    put(&mut line, b" -")?;
+    put(&mut line, b" ")?;
+    put_hex(&mut line, value)?;
     Ok(line)
 }
 
@@ -171,10 +172,22 @@ fn set_line(alloc: Global, key: &[u8]) -> Result<Buffer, Fault> {
 fn longest_key(rt: HostRuntime) -> Result<(), Fail> {
     let alloc = rt.alloc();
     let key = copies(alloc, 7, 2114)?;
-    let line = set_line(alloc, key.as_slice())?;
+    let line = set_line(alloc, key.as_slice(), b"")?;
     expect_set(&rt, alloc, line.bytes(), key.as_slice(), b"")?;
     let key = copies(alloc, 7, 2115)?;
-    let line = set_line(alloc, key.as_slice())?;
+    let line = set_line(alloc, key.as_slice(), b"")?;
+    assert!(rt; matches!(read_event(alloc, line.bytes()), Err(EventError::Bad)));
+    Ok(())
+}
+
+#[test]
+fn longest_value(rt: HostRuntime) -> Result<(), Fail> {
+    let alloc = rt.alloc();
+    let value = copies(alloc, 7, 4194304)?;
+    let line = set_line(alloc, b"a", value.as_slice())?;
+    expect_set(&rt, alloc, line.bytes(), b"a", value.as_slice())?;
+    let value = copies(alloc, 7, 4194305)?;
+    let line = set_line(alloc, b"a", value.as_slice())?;
     assert!(rt; matches!(read_event(alloc, line.bytes()), Err(EventError::Bad)));
     Ok(())
 }
