@@ -1,9 +1,7 @@
 -- Laws of `nibbles` by place.
-use Rattle.std.proofs.Common.{ℕ, zero, suc, ◌+◌, ◌-◌, ◌*◌, ◌/◌, ◌%◌, ◌<◌, ◌≡◌, List, [], ◌∷◌, ◌++◌, length, take, drop, get_or, refl, ap, sym, ◌∙◌, arith, length-drop}
-use Rattle.std.specs.List.{All}
-use Rattle.std.proofs.lemmas.List.Elements.{All-head, All-tail}
-use Rattle.std.proofs.lemmas.List.{get_or-drop, take_more}
-use Rattle.byte_model.specs.Nibbles.{nibbles, AreNibbles}
+use Rattle.std.proofs.Common.{ℕ, zero, suc, ◌+◌, ◌-◌, ◌*◌, ◌/◌, ◌%◌, ◌≡◌, List, [], ◌∷◌, length, take, drop, get_or, refl, ap, sym, ◌∙◌, arith, length-drop}
+use Rattle.std.proofs.lemmas.List.{get_or-drop}
+use Rattle.byte_model.specs.Nibbles.{nibbles}
 
 pub length-nibbles : (key : List ℕ) → length (nibbles key) ≡ 2 * length key
 unfolding nibbles
@@ -41,18 +39,6 @@ get_or-nibbles_low (byte ∷ key) zero = refl
 get_or-nibbles_low (byte ∷ key) (suc i) =
     let e : 2 * suc i + 1 ≡ suc (suc (2 * i + 1)) = omega arith in rw e (get_or-nibbles_low key i)
 
-pub nibbles-append : (front back : List ℕ) → nibbles (front ++ back) ≡ nibbles front ++ nibbles back
-unfolding nibbles
-nibbles-append [] back = refl
-nibbles-append (byte ∷ front) back = ap (λ path. byte / 16 ∷ byte % 16 ∷ path) (nibbles-append front back)
-
-pub AreNibbles-nibbles : (key : List ℕ) → All (λ byte. byte < 256) key → AreNibbles (nibbles key)
-unfolding nibbles
-AreNibbles-nibbles [] all = tt
-AreNibbles-nibbles (byte ∷ key) all =
-    let small : byte < 256 = All-head (λ b. b < 256) byte key all in
-    (omega arith, (omega arith, AreNibbles-nibbles key (All-tail (λ b. b < 256) byte key all)))
-
 -- the nibble at any place
 pub get_or-nibbles_even : (key : List ℕ) (place : ℕ) → place % 2 ≡ 0 → get_or (nibbles key) place 0 ≡ get_or key (place / 2) 0 / 16
 get_or-nibbles_even key place even =
@@ -70,8 +56,3 @@ length-view key path place is = sym (ap length is) ∙ simp (length-drop, length
 
 pub get_or-view : (key path : List ℕ) (place i : ℕ) → drop place (nibbles key) ≡ path → get_or (nibbles key) (place + i) 0 ≡ get_or path i 0
 get_or-view key path place i is = sym (get_or-drop place (nibbles key) i 0) ∙ ap (λ p. get_or p i 0) is
-
--- one more byte
-pub nibbles-more : (key : List ℕ) (i : ℕ) → i < length key → nibbles (take (i + 1) key) ≡ nibbles (take i key) ++ get_or key i 0 / 16 ∷ get_or key i 0 % 16 ∷ []
-unfolding nibbles
-nibbles-more key i within = ap nibbles (take_more key i 0 within) ∙ nibbles-append (take i key) (get_or key i 0 ∷ [])

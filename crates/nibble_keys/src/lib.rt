@@ -3,11 +3,9 @@
 
 mod nibbles;
 mod packing;
-mod path;
 
 pub use nibbles::Nibbles;
 pub use packing::{pack, packed_len, put_packed};
-pub use path::nibble_path;
 
 #[cfg(test)]
 mod tests;

@@ -3,7 +3,7 @@ use base_core::Text;
 use std::test::Fail;
 
 #[test]
-fn nibbles_of_keys(rt: HostRuntime) -> Result<(), Fail> {
+fn nibbles_of_keys(rt: HostRuntime) {
     let key = Nibbles::new(&[0x12, 0x34, 0x56]);
     let near = Nibbles::new(&[0x12, 0x35]);
     let shifted = Nibbles::new(&[0x23, 0x45, 0x60]);
@@ -14,9 +14,6 @@ fn nibbles_of_keys(rt: HostRuntime) -> Result<(), Fail> {
     assert_eq!(rt; key.common(&near), 3);
     assert_eq!(rt; key.rest(1).common(&near.rest(1)), 2);
     assert_eq!(rt; key.rest(1).common(&shifted), 5);
-    let path = nibble_path(rt.alloc(), &[0x12, 0xf0])?;
-    assert_eq!(rt; path.as_slice(), [1, 2, 15, 0].as_slice());
-    Ok(())
 }
 
 #[test]

@@ -52,7 +52,7 @@ impl Lines {
 
     /// The next line without its line feed, or nothing at the end of the input. A line is not handed
     /// out where it has more than 8,400,000 bytes, or where byte number 2^30 + 1 of the input stands
-    /// in it. After a refusal the line is still there.
+    /// in it.
     pub fn next<S: Source>(&mut self, source: &mut S) -> Result<Option<&[u8]>, LineError>
         ensures no_fall { S.faults source.old ≤ S.faults source.new }
         ensures rose { result ≡ Err LineError.ReadFault → Rose (S.faults source.old) (S.faults source.new) }
