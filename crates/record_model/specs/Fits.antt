@@ -1,0 +1,19 @@
+-- What fits at a place of a trie. A key has at most 4,228 nibbles, two for each byte, and below an extension stands a branch.
+use Rattle.std.specs.Prelude.{ℕ, ◌+◌, ◌%◌, ◌==◌, ◌&&◌, not, nat_le, nat_lt, Bool, true, false, List, length, Option, None, Some, if◌then◌else◌}
+use Rattle.byte_model.specs.PackedPath.{longest_path}
+use Rattle.byte_model.specs.Node.{Node, leaf, branch, extension}
+use Rattle.record_model.specs.Records.{has_shape}
+
+-- the number of nibbles is that of whole bytes
+abbrev pub is_whole : ℕ → Bool
+is_whole nibbles = nibbles % 2 == 0
+
+-- A node of good shape fits below so many nibbles, as an extension's child or not: a key ends at a whole byte and within its length, a branch and an extension leave room for a nibble more, and neither leaf nor extension stands below an extension.
+unfoldable pub has_place : ℕ → Bool → Node → Bool
+has_place depth after_extension (leaf path value) = is_whole (depth + length path) && nat_le (depth + length path) longest_path && not after_extension
+has_place depth after_extension (branch None kids) = nat_lt depth longest_path
+has_place depth after_extension (branch (Some value) kids) = nat_lt depth longest_path && is_whole depth
+has_place depth after_extension (extension path child) = nat_lt (depth + length path) longest_path && not after_extension
+
+abbrev pub fits_at : ℕ → Bool → Node → Bool
+fits_at depth after_extension node = has_shape node && has_place depth after_extension node

@@ -1,0 +1,4 @@
+pub mod Fields
+pub mod Paths
+pub mod Records
+pub mod Fits
