@@ -12,7 +12,7 @@ use Rattle.record_model.specs.Paths.{PathFault, flag, path_in}
 -- what is wrong with a record
 pub data RecordFault : Type 0 where
   frame : FrameFault → RecordFault
-  path : PathFault → RecordFault
+  pack : PathFault → RecordFault
   shape : RecordFault
 
 -- ---- the layout
@@ -107,13 +107,13 @@ shaped n = if has_shape n then Ok n else Err shape
 
 -- a path whose leaf flag suits the kind of the node
 unfoldable pub suited : Bool → List ℕ → Result (List ℕ) RecordFault
-suited leaf bytes = suits leaf (path_in bytes)
+suited ends bytes = suits ends (path_in bytes)
   where
     suits : Bool → Result (List ℕ × Bool) PathFault → Result (List ℕ) RecordFault
-    suits leaf (Err e) = Err (path e)
+    suits ends (Err e) = Err (pack e)
     suits true (Ok (p, true)) = Ok p
-    suits true (Ok (p, false)) = Err (path flag)
-    suits false (Ok (p, true)) = Err (path flag)
+    suits true (Ok (p, false)) = Err (pack flag)
+    suits false (Ok (p, true)) = Err (pack flag)
     suits false (Ok (p, false)) = Ok p
 
 unfoldable pub node_in : Layout → Result Node RecordFault
