@@ -2,4 +2,3 @@
 //! them.
 #![tactic(auto)]
 
-pub mod laws;
