@@ -1,1 +1,2 @@
 pub mod CommonLength
+pub mod Unpacking

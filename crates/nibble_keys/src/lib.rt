@@ -2,10 +2,14 @@
 #![tactic(auto)]
 
 mod nibbles;
+mod pack_error;
 mod packing;
+mod unpacking;
 
 pub use nibbles::Nibbles;
+pub use pack_error::PackError;
 pub use packing::{pack, packed_len, put_packed};
+pub use unpacking::Packed;
 
 #[cfg(test)]
 mod tests;

@@ -1,1 +1,4 @@
 pub mod Shown
+pub mod Children
+pub mod Views
+pub mod Layouts

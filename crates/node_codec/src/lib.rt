@@ -2,12 +2,20 @@
 #![tactic(auto)]
 
 mod kids;
+mod kids_view;
+mod layout;
 mod node;
+mod node_error;
+mod node_view;
+mod ordinals;
 mod value_ref;
 mod writing;
 
 pub use kids::Kids;
+pub use kids_view::KidsView;
 pub use node::Node;
+pub use node_error::NodeError;
+pub use node_view::NodeView;
 pub use value_ref::ValueRef;
 pub use writing::{write_branch, write_extension, write_leaf, write_node};
 

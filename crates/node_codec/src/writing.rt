@@ -9,19 +9,11 @@ ghost use Rattle.node_codec.specs.Shown.{value_of, kids_of, node_of, path_of};
 
 use crate::kids::Kids;
 use crate::node::Node;
+use crate::ordinals::{BRANCH, BRANCH_WITH_VALUE, EXTENSION, LEAF};
 use crate::value_ref::ValueRef;
 use base_core::{Digest, Text, Writer};
 use nibble_keys::{packed_len, put_packed};
 use std::alloc::{AllocError, Global};
-
-// The ordinals of the records.
-const LEAF: u8 = 0;
-
-const BRANCH: u8 = 1;
-
-const BRANCH_WITH_VALUE: u8 = 2;
-
-const EXTENSION: u8 = 3;
 
 /// Bytes of a digest.
 const DIGEST_BYTES: usize = 32;
