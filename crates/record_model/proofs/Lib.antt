@@ -1,2 +1,4 @@
 pub mod Digests
 pub mod PackedPaths
+pub mod Steps
+pub mod Fields
