@@ -2,3 +2,4 @@ pub mod Digests
 pub mod PackedPaths
 pub mod Steps
 pub mod Fields
+pub mod Layouts

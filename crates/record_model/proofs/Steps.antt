@@ -20,6 +20,11 @@ pub unless : {A E : Type 0} {P : A → Type 0} (test : Bool) (e : E) (x : A) →
 unless true e x h = record { given = tt }
 unless false e x h = record { given = h refl }
 
+-- one reader or another
+pub by_test : {A E : Type 0} {P : A → Type 0} {yes no : Result A E} (test : Bool) → (test ≡ true → Gives yes P) → (test ≡ false → Gives no P) → Gives (if test then yes else no) P
+by_test true h k = h refl
+by_test false h k = k refl
+
 -- what is so is so in other words
 pub so_gives : {A E : Type 0} {P Q : A → Type 0} {read : Result A E} → Gives read P → ((x : A) → P x → Q x) → Gives read Q
 so_gives {read = Ok x} h so = record { given = so x h.given }
