@@ -3,3 +3,4 @@ pub mod PackedPaths
 pub mod Steps
 pub mod Fields
 pub mod Layouts
+pub mod Kids
