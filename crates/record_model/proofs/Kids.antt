@@ -1,11 +1,11 @@
 -- A bitmap and the digests behind it are the children of a branch, and those children's bitmap and digests are the same again.
-use Rattle.std.proofs.Common.{◌≡◌, ℕ, zero, suc, ◌+◌, ◌*◌, ◌/◌, ◌%◌, ◌^◌, ◌<◌, ◌≤◌, ◌==◌, Bool, true, false, cond, if◌then◌else◌, List, [], ◌∷◌, ◌++◌, length, take, drop, Option, None, Some, IfSome, is_some, ◌⊎◌, inl, inr, refl, sym, ◌∙◌, ap, ap₂, subst, arith, pow-suc, mod-eq_of_lt, one-add, take-add, append-nil, length-append, length-take, length-drop}
-use Rattle.std.proofs.lemmas.Bool.{cases_lt, cases_eq, eq-eqb, ne_eqb, eqb-true, eqb-false, cases_Bool}
+use Rattle.std.proofs.Common.{◌≡◌, ℕ, zero, suc, ◌+◌, ◌*◌, ◌%◌, ◌^◌, ◌<◌, ◌≤◌, ◌==◌, Bool, true, false, cond, if◌then◌else◌, List, ◌++◌, length, take, drop, Option, None, Some, IfSome, is_some, ◌⊎◌, inl, inr, refl, sym, ◌∙◌, ap, ap₂, subst, arith, pow-suc, mod-eq_of_lt, take-add, append-nil, length-append, length-take, length-drop}
+use Rattle.std.proofs.lemmas.Bool.{cases_lt, cases_eq, eq-eqb, ne_eqb, eqb-true, eqb-false}
 use Rattle.std.proofs.lemmas.List.{take_all}
 use Rattle.std.proofs.lemmas.Nat.{mod-pow-add, mod_below, pow_pos}
 use Rattle.byte_model.specs.Below.{sum_below, joined_below}
 use Rattle.byte_model.specs.Borsh.{borsh_u16}
-use Rattle.byte_model.specs.Node.{child_bit, child_digest, spelled_kids}
+use Rattle.byte_model.specs.Node.{child_bit, child_digest, spelled_kids, kid_count}
 use Rattle.byte_model.specs.Laws.{IsDigest}
 use Rattle.byte_model.proofs.Spellings.{spelled_kids-same}
 use Rattle.record_model.specs.Records.{bit, bits_below, kid_in}
@@ -154,3 +154,15 @@ unfolding spelled_kids
 kid_in-again kids fits =
     let fields = bitmap_of-fits kids fits in
     spelled_kids-same (kid_in (bitmap_of kids) (digests_of kids)) kids (kid_in-digest (bitmap_of kids) (digests_of kids) fields) fits (spelled_kids-kid_in (bitmap_of kids) (digests_of kids) fields)
+
+-- children that are the same are as many
+pub kid_count-same : (kids others : ℕ → Option (List ℕ)) → ((x : ℕ) → x < 16 → kids x ≡ others x) → kid_count kids ≡ kid_count others
+unfolding sum_below
+kid_count-same kids others = go 16
+  where
+    there : (ℕ → Option (List ℕ)) → ℕ → ℕ
+    there kids i = if is_some (kids i) then 1 else 0
+
+    go : (n : ℕ) → ((x : ℕ) → x < n → kids x ≡ others x) → sum_below (there kids) n ≡ sum_below (there others) n
+    go zero same = refl
+    go (suc n) same = ap₂ (λ (a b : ℕ). a + b) (go n (λ x h. same x (omega arith))) (ap (λ kid. if is_some kid then 1 else 0) (same n (omega arith)))

@@ -1,16 +1,15 @@
 -- The layout that is read is the layout that was spelled, and what was spelled is read again, whatever stands behind it.
-use Rattle.std.proofs.Common.{◌≡◌, ℕ, ◌+◌, ◌*◌, ◌^◌, ◌<◌, ◌==◌, Bool, true, false, List, [], ◌∷◌, ◌++◌, length, Option, None, Some, IfSome, Result, Ok, Err, refl, sym, ◌∙◌, ap, subst, arith, append_assoc}
+use Rattle.std.proofs.Common.{◌≡◌, ℕ, ◌+◌, ◌*◌, ◌^◌, ◌<◌, ◌==◌, true, List, ◌∷◌, ◌++◌, length, None, Some, IfSome, Ok, refl, sym, subst, arith, append_assoc}
 use Rattle.std.specs.Prelude.{⊤}
-use Rattle.std.specs.Int.{w8, w16, w32, w64}
 use Rattle.std.proofs.lemmas.Bool.{eqb-true}
 use Rattle.byte_model.specs.Nibbles.{AreBytes}
-use Rattle.byte_model.specs.Borsh.{borsh_u8, borsh_u16, borsh_u32, borsh_u64, borsh_bytes}
+use Rattle.byte_model.specs.Borsh.{borsh_u16, borsh_u32, borsh_u64, borsh_bytes}
 use Rattle.byte_model.specs.Node.{ValueRef, spelled_value}
 use Rattle.byte_model.specs.Laws.{IsDigest, NamesValue}
-use Rattle.record_model.specs.Fields.{Cursor, Read, ◌>>=◌, bytes_at, number_at, vector_at, digests_at}
+use Rattle.record_model.specs.Fields.{Cursor, Read}
 use Rattle.record_model.specs.Records.{Layout, leaf, branch, extension, bits_below, value_at, kids_at, leaf_at, branch_at, branch_with_value_at, extension_at, kind_at, layout_at}
 use Rattle.record_model.proofs.Steps.{Gives, gives, and_then, by_test, Takes, Takes-then}
-use Rattle.record_model.proofs.Fields.{behind, TakesBytes, bytes_taken, bytes_again, one_byte, two_bytes, four_bytes, eight_bytes, TakesNumber, number_taken, number_again, TakesVector, vector_taken, vector_again, TakesDigests, digests_taken, digests_again}
+use Rattle.record_model.proofs.Fields.{behind, bytes_taken, bytes_again, one_byte, two_bytes, four_bytes, eight_bytes, number_taken, number_again, vector_taken, vector_again, digests_taken, digests_again}
 
 -- ---- values and children
 

@@ -4,3 +4,4 @@ pub mod Steps
 pub mod Fields
 pub mod Layouts
 pub mod Kids
+pub mod Nodes

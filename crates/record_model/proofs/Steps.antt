@@ -1,5 +1,5 @@
 -- What a reader gives, and what it took from the front.
-use Rattle.std.proofs.Common.{◌≡◌, ℕ, ◌+◌, ◌<◌, Bool, true, false, if◌then◌else◌, List, ◌++◌, length, Result, Ok, Err, IfOk, refl, sym, ◌∙◌, ap, append_assoc, arith}
+use Rattle.std.proofs.Common.{◌≡◌, ℕ, Bool, true, false, if◌then◌else◌, List, ◌++◌, Result, Ok, Err, IfOk, refl, sym, ◌∙◌, ap, append_assoc}
 use Rattle.byte_model.specs.Nibbles.{AreBytes}
 use Rattle.record_model.specs.Fields.{Cursor, ◌>>=◌}
 
