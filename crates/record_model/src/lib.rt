@@ -2,3 +2,5 @@
 //! them.
 #![tactic(auto)]
 
+
+pub mod laws;
