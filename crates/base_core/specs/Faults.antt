@@ -1,5 +1,5 @@
 -- Objects of the outside count their own failures, so that a caller can't claim one.
-use Rattle.std.specs.Prelude.{◌≡◌, ℕ, ◌+◌, ◌-◌, ◌^◌, ◌≤◌, min, Result, OnErr}
+use Rattle.std.specs.Prelude.{ℕ, ◌+◌, ◌-◌, ◌^◌, ◌≤◌, min, Result, OnErr}
 
 -- the count at which it stays
 abbrev pub most_faults : ℕ

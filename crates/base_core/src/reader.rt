@@ -1,4 +1,4 @@
-ghost use Rattle.std.specs.Prelude.{◌≡◌, length, IfOk};
+ghost use Rattle.std.specs.Prelude.{◌≡◌, ◌+◌, ◌^◌, ◌<◌, length, IfOk};
 ghost use Rattle.std.specs.Int.{w8, w16, w32, w64};
 ghost use Rattle.record_model.specs.Fields.{start_of, bytes_at, number_at, vector_at, end_of};
 ghost use Rattle.base_core.specs.Reading.{Reads, Answers};
@@ -49,7 +49,8 @@ impl<'a> Reader<'a> {
 
     /// How many bytes are left.
     pub fn left(&self) -> u64
-        ensures { result ≡ length self.now.left }
+        ensures left { result ≡ length self.now.left }
+        ensures within { self.now.at + result < 2 ^ 63 }
     {
         self.left.len() as u64
     }

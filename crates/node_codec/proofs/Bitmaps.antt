@@ -1,5 +1,5 @@
 -- Counting the bits of a bitmap.
-use Rattle.std.proofs.Common.{◌≡◌, ℕ, zero, suc, ◌+◌, ◌*◌, ◌/◌, ◌%◌, ◌^◌, ◌<◌, Bool, true, false, nat_eq, ◌==◌, if◌then◌else◌, List, take, drop, Option, None, Some, is_some, ◌≤◌, refl, sym, ◌∙◌, ap, ap₂, arith, bit_and, ◌-◌, inl, inr}
+use Rattle.std.proofs.Common.{◌≡◌, ℕ, zero, suc, ◌+◌, ◌*◌, ◌%◌, ◌^◌, ◌<◌, ◌==◌, if◌then◌else◌, List, take, drop, None, Some, is_some, ◌≤◌, refl, sym, ◌∙◌, ap, ap₂, arith, bit_and, ◌-◌, inl, inr}
 use Rattle.std.specs.Int.Count.{ones, ones_cat}
 use Rattle.std.proofs.Math.Nat.{mod-lt, mod-eq_of_lt, add_comm}
 use Rattle.std.proofs.Math.Pow.{pow-lt, pow_mono}
@@ -51,11 +51,15 @@ unfolding sum_below
 kids-bits bitmap digests zero = refl
 kids-bits bitmap digests (suc n) = ap₂ (λ x y. x + y) (kids-bits bitmap digests n) (kid-bit bitmap digests n (bit bitmap n) (bit-small bitmap n))
 
--- The children of a bitmap of sixteen bits are as many as its bits.
-pub kid_count-ones : (bitmap : ℕ) (digests : List ℕ) → bitmap < 2 ^ 16 → ones bitmap ≡ kid_count (kid_in bitmap digests)
-kid_count-ones bitmap digests h =
+-- all bits of a bitmap of sixteen
+pub ones-all : (bitmap : ℕ) → bitmap < 2 ^ 16 → ones bitmap ≡ bits_below bitmap 16
+ones-all bitmap h =
     let whole : bitmap % 2 ^ 16 ≡ bitmap = omega arith in
-    sym (ap ones whole) ∙ ones-below bitmap 16 ∙ sym (kids-bits bitmap digests 16)
+    sym (ap ones whole) ∙ ones-below bitmap 16
+
+-- The children are as many as the bits.
+pub kid_count-bits : (bitmap : ℕ) (digests : List ℕ) → bits_below bitmap 16 ≡ kid_count (kid_in bitmap digests)
+kid_count-bits bitmap digests = sym (kids-bits bitmap digests 16)
 
 -- what `&` leaves of a bitmap
 pub ones-masked : (bitmap i : ℕ) → i < 16 → ones (bit_and bitmap (1 * 2 ^ i % 65536 - 1)) ≡ bits_below bitmap i

@@ -1,2 +1,4 @@
 pub mod Children
 pub mod Bitmaps
+pub mod Digests
+pub mod Records

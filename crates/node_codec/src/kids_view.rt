@@ -55,8 +55,16 @@ impl<'a> KidsView<'a> {
         ensures value { result ≡ kid_count (kids_seen self.now) }
         ensures few { result ≤ 16 }
     {
-        self.bitmap.count_ones() as u64
+        bit_count(self.bitmap)
     }
+}
+
+/// How many bits are set.
+pub(crate) fn bit_count(bitmap: u16) -> u64
+    ensures value { result ≡ bits_below bitmap 16 }
+    ensures few { result ≤ 16 }
+{
+    bitmap.count_ones() as u64
 }
 
 /// Bit i, where bit 0 is the lowest.

@@ -1,11 +1,11 @@
-ghost use Rattle.std.specs.Prelude.{◌≡◌, ◌≤◌};
+ghost use Rattle.std.specs.Prelude.{◌≡◌, ◌*◌, ◌≤◌, length, IfOk};
 ghost use Rattle.record_model.specs.Fields.{bytes_at, digests_at};
 ghost use Rattle.record_model.specs.Records.{value_at, kids_at, leaf_at, branch_at, branch_with_value_at, extension_at, kind_at, layout_at, layout_of};
 ghost use Rattle.base_core.specs.Reading.{Answers, Follows};
 ghost use Rattle.node_codec.specs.Shown.{value_of};
 ghost use Rattle.node_codec.specs.Layouts.{layout_seen, kids_pair};
 
-use crate::kids_view::KidsView;
+use crate::kids_view::{KidsView, bit_count};
 use crate::ordinals::{BRANCH, BRANCH_WITH_VALUE, EXTENSION, LEAF};
 use crate::value_ref::ValueRef;
 use base_core::{BorshError, Digest, Reader};
@@ -110,14 +110,15 @@ fn read_kids<'a>(reader: &mut Reader<'a>) -> Result<KidsView<'a>, BorshError>
     ensures { Follows kids_pair result reader.old reader.new kids_at }
 {
     let bitmap = reader.u16()?;
-    let digests = read_digests(reader, bitmap.count_ones() as u64)?;
+    let digests = read_digests(reader, bit_count(bitmap))?;
     Ok(KidsView::new(bitmap, digests))
 }
 
 /// The bytes of so many digests. Where they run past the end, the first that does is to blame.
 fn read_digests<'a>(reader: &mut Reader<'a>, count: u64) -> Result<&'a [u8], BorshError>
     requires { count ≤ 16 }
-    ensures { Follows (λ digests. digests.now) result reader.old reader.new (digests_at count) }
+    ensures read { Follows (λ digests. digests.now) result reader.old reader.new (digests_at count) }
+    ensures length { IfOk result (λ digests. length digests.now ≡ 32 * count) }
 {
     let whole = reader.left() / DIGEST_BYTES;
     if whole < count {

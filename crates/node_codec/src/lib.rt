@@ -8,6 +8,7 @@ mod node;
 mod node_error;
 mod node_view;
 mod ordinals;
+mod reading;
 mod value_ref;
 mod writing;
 
@@ -16,6 +17,7 @@ pub use kids_view::KidsView;
 pub use node::Node;
 pub use node_error::NodeError;
 pub use node_view::NodeView;
+pub use reading::read_node;
 pub use value_ref::ValueRef;
 pub use writing::{write_branch, write_extension, write_leaf, write_node};
 

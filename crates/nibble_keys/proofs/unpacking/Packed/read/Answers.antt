@@ -1,5 +1,4 @@
-use Rattle.std.proofs.Common.{rules, ◌≡◌, ◌<◌, ◌≤◌, ◌*◌, ℕ, length, ap, ◌∙◌, arith}
-use Rattle.byte_model.specs.Nibbles.{nibbles}
+use Rattle.std.proofs.Common.{rules, ◌≡◌, ◌<◌, ◌*◌, length, ap, ◌∙◌, arith}
 use Rattle.byte_model.proofs.Digits.{length-nibbles}
 use Rattle.nibble_keys.proofs.unpacking.Packed.read.Goals as goal
 use Rattle.nibble_keys.proofs.unpacking.Packed.read.Goals.{then-is_odd, else-is_odd}

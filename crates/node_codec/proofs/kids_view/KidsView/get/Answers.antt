@@ -1,5 +1,5 @@
-use Rattle.std.proofs.Common.{rules, ◌≡◌, ◌+◌, ◌*◌, ◌≤◌, length, arith}
-use Rattle.record_model.specs.Records.{bit, bits_below}
+use Rattle.std.proofs.Common.{rules, ◌≡◌, arith}
+use Rattle.record_model.specs.Records.{bit}
 use Rattle.node_codec.proofs.Bitmaps.{bits_below-more}
 use Rattle.node_codec.proofs.kids_view.KidsView.get.Goals as goal
 
