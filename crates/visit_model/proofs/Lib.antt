@@ -1,1 +1,3 @@
 pub mod SeenBounds
+pub mod ShownFits
+pub mod ShownTrees

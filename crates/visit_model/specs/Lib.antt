@@ -1,3 +1,4 @@
 pub mod Seen
+pub mod Shown
 pub mod Steps
 pub mod Visits
