@@ -1,3 +1,4 @@
 pub mod SeenBounds
 pub mod ShownFits
 pub mod ShownTrees
+pub mod ShownStates

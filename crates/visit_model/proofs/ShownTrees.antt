@@ -60,7 +60,7 @@ IsReadAs n usage read = IsOkAnd read (λ r. SameNode r.0 n × (r.1 ≡ usage) ×
 
 module _ (reads : (n : Node) (usage : ℕ) (bytes : List ℕ) → IsRecord n usage bytes → IsReadAs n usage (record_in bytes)) (table : Table) where
   -- the text of a tree is seen as the tree
-  abbrev Sees : ℕ → Bool → Tree → Type 0
+  abbrev pub Sees : ℕ → Bool → Tree → Type 0
   Sees depth after_extension tree = seen_at table depth after_extension (sha256 (text tree)) ≡ shown tree
 
   -- whatever the same node is seen as, by what is seen further down, is the tree
@@ -123,10 +123,10 @@ module _ (reads : (n : Node) (usage : ℕ) (bytes : List ℕ) → IsRecord n usa
   -- ---- all of the tree
 
   -- each of its texts stands under its digest
-  abbrev AreHeld : Tree → Type 0
+  abbrev pub AreHeld : Tree → Type 0
   AreHeld tree = (t : List ℕ) → IsIn (tree_texts tree) t → get table (sha256 t) ≡ Some t
 
-  top_held : (tree : Tree) → IsThere tree → AreHeld tree → get table (sha256 (text tree)) ≡ Some (text tree)
+  pub top_held : (tree : Tree) → IsThere tree → AreHeld tree → get table (sha256 (text tree)) ≡ Some (text tree)
   unfolding gathered
   top_held nothing there held = absurd there
   top_held (leaf path value) there held = held (text (leaf path value)) (inl refl)
