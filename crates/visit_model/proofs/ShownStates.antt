@@ -1,14 +1,11 @@
 -- Below the root of a state whose texts are all held, its trie is seen.
-use Rattle.std.proofs.Common.{◌≡◌, ◌≢◌, ℕ, true, false, if◌then◌else◌, List, [], ◌++◌, map, Some, refl, sym, ◌∙◌, ap, subst, inl, arith}
+use Rattle.std.proofs.Common.{◌≡◌, ◌≢◌, ℕ, false, if◌then◌else◌, List, [], map, Some, refl, sym, ◌∙◌, ap, subst, inl, arith}
 use Rattle.std.specs.Prelude.{nat_eq}
 use Rattle.std.specs.Cmp.Lexicographic.{pointwise}
 use Rattle.std.specs.FinMap.{get}
-use Rattle.std.specs.List.{AllByRecursion}
 use Rattle.std.proofs.lemmas.Bool.{false_from_ne_true}
 use Rattle.std.proofs.lemmas.Slice.Eq.{bytes_eq-Decides}
 use Rattle.sha2.specs.Sha256.{sha256}
-use Rattle.byte_model.specs.Node.{Node}
-use Rattle.record_model.specs.Records.{IsRecord, record_in}
 use Rattle.trie_model.specs.State.{State, Row, IsState, rows_of}
 use Rattle.trie_model.specs.Tree.{Tree, nothing, leaf, branch, extension, tree_of}
 use Rattle.trie_model.specs.Texts.{text}
@@ -20,7 +17,7 @@ use Rattle.visit_model.specs.Seen as seen
 use Rattle.visit_model.specs.Seen.{Seen, seen_at, seen}
 use Rattle.visit_model.specs.Shown.{shown}
 use Rattle.visit_model.proofs.ShownFits.{IsThere, state_fits}
-use Rattle.visit_model.proofs.ShownTrees.{IsReadAs, AreHeld, tree_seen}
+use Rattle.visit_model.proofs.ShownTrees.{tree_seen}
 
 -- ---- the root
 
@@ -60,11 +57,10 @@ top_in (extension path child) there = inl refl
 
 -- ---- the state
 
-module _ (reads : (n : Node) (usage : ℕ) (bytes : List ℕ) → IsRecord n usage bytes → IsReadAs n usage (record_in bytes)) where
-  pub state_seen : (table : Table) (state : State) → Holds table state → IsState state → seen table (root state) ≡ shown (subtree_at state [])
-  state_seen table state held is =
-      let tree : Tree = subtree_at state [] in
-      root_seen table tree
-        (λ there. all_at (λ (t : List ℕ). sha256 t ≢ zero_digest) (texts_of state) (text tree) held.nonzero (tree_texts_among state (text tree) (top_in tree there)))
-        (λ there. tree_seen reads table tree 0 false (omega arith) (state_fits state is)
-          (λ t h. all_at (λ (t : List ℕ). get table (sha256 t) ≡ Some t) (texts_of state) t held.found (tree_texts_among state t h)) there)
+pub state_seen : (table : Table) (state : State) → Holds table state → IsState state → seen table (root state) ≡ shown (subtree_at state [])
+state_seen table state held is =
+    let tree : Tree = subtree_at state [] in
+    root_seen table tree
+    (λ there. all_at (λ (t : List ℕ). sha256 t ≢ zero_digest) (texts_of state) (text tree) held.nonzero (tree_texts_among state (text tree) (top_in tree there)))
+    (λ there. tree_seen table tree 0 false (omega arith) (state_fits state is)
+    (λ t h. all_at (λ (t : List ℕ). get table (sha256 t) ≡ Some t) (texts_of state) t held.found (tree_texts_among state t h)) there)

@@ -1,7 +1,5 @@
 -- What is seen of a trie whose texts are all held, and whose nodes fit, is the trie.
-use Rattle.std.proofs.Common.{◌≡◌, ◌≢◌, ℕ, ◌+◌, ◌<◌, ◌≤◌, ◌&&◌, nat_le, nat_lt, Bool, true, false, if◌then◌else◌, List, [], length, Option, None, Some, is_some, option_map, Result, Ok, Err, IsOkAnd, ◌⊎◌, inl, inr, refl, sym, ◌∙◌, ap, ap₂, arith}
-use Rattle.std.specs.Prelude.{⊤, nat_eq}
-use Rattle.std.specs.Cmp.Lexicographic.{pointwise}
+use Rattle.std.proofs.Common.{◌≡◌, ℕ, ◌+◌, ◌<◌, ◌≤◌, ◌&&◌, nat_le, nat_lt, Bool, true, false, if◌then◌else◌, List, length, Option, None, Some, is_some, option_map, Result, Ok, Err, ◌⊎◌, inl, inr, refl, sym, ◌∙◌, ap, ap₂, arith}
 use Rattle.std.specs.FinMap.{get}
 use Rattle.std.proofs.lemmas.Bool.{cases_lt}
 use mathlib.Core.Path.{fun_ext}
@@ -22,7 +20,8 @@ use Rattle.visit_model.specs.Seen as seen
 use Rattle.visit_model.specs.Seen.{Seen, seen_kid, seen_node, seen_record, seen_text, seen_at}
 use Rattle.visit_model.specs.Shown.{shown}
 use Rattle.visit_model.proofs.SeenBounds.{seen_at-seen_text, place_fits, branch_room, extension_room}
-use Rattle.visit_model.proofs.ShownFits.{IsThere, TopFits, FitsBelow}
+use Rattle.visit_model.proofs.ShownRecords.{NoKidsPast, IsReadAs, read_as}
+use Rattle.visit_model.proofs.ShownFits.{IsThere, FitsBelow}
 
 -- ---- the same node fits at the same places
 
@@ -46,19 +45,9 @@ fits_at-same depth after_extension (node.extension path child) (node.leaf other 
 fits_at-same depth after_extension (node.extension path child) (node.branch value kids) same = absurd same
 fits_at-same depth after_extension (node.extension path child) (node.extension other_path other_child) same = ap₂ (λ p c. fits_at depth after_extension (node.extension p c)) same.0 same.1
 
--- ---- records that are read
+-- ---- a text, by the record that it is
 
--- a branch that was read has no child at a number that is no nibble
-abbrev pub NoKidsPast : Node → Type 0
-NoKidsPast (node.leaf path value) = ⊤
-NoKidsPast (node.branch value kids) = (x : ℕ) → 16 ≤ x → kids x ≡ None
-NoKidsPast (node.extension path child) = ⊤
-
--- a record is read as the node that it spells
-abbrev pub IsReadAs : Node → ℕ → Result (Node × ℕ) RecordFault → Type 0
-IsReadAs n usage read = IsOkAnd read (λ r. SameNode r.0 n × (r.1 ≡ usage) × NoKidsPast r.0)
-
-module _ (reads : (n : Node) (usage : ℕ) (bytes : List ℕ) → IsRecord n usage bytes → IsReadAs n usage (record_in bytes)) (table : Table) where
+module _ (table : Table) where
   -- the text of a tree is seen as the tree
   abbrev pub Sees : ℕ → Bool → Tree → Type 0
   Sees depth after_extension tree = seen_at table depth after_extension (sha256 (text tree)) ≡ shown tree
@@ -80,7 +69,7 @@ module _ (reads : (n : Node) (usage : ℕ) (bytes : List ℕ) → IsRecord n usa
   text_seen depth after_extension tree n room held is fits shows =
       seen_at-seen_text table depth after_extension (sha256 (text tree)) room
       ∙ ap (seen_text (seen_at table) depth after_extension (sha256 (text tree))) held
-      ∙ record_seen depth after_extension tree n (record_in (text tree)) (reads n (usage tree) (text tree) is) fits shows
+      ∙ record_seen depth after_extension tree n (record_in (text tree)) (read_as n (usage tree) (text tree) is) fits shows
 
   -- ---- by what the tree is
 

@@ -1,4 +1,4 @@
 pub mod Seen
-pub mod Shown
 pub mod Steps
 pub mod Visits
+pub mod Shown

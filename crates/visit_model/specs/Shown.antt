@@ -1,10 +1,9 @@
--- What a reading sees of a trie all of whose texts are held: its nodes, by the digests of their texts and with the usages that they state.
-use Rattle.std.specs.Prelude.{List, map}
+-- What is seen of a trie whose texts are all there: each node under the digest of its text.
 use Rattle.std.specs.Option.{option_map}
 use Rattle.sha2.specs.Sha256.{sha256}
 use Rattle.trie_model.specs.Tree as tree
 use Rattle.trie_model.specs.Tree.{Tree}
-use Rattle.trie_model.specs.Texts.{text, usage, value_ref}
+use Rattle.trie_model.specs.Texts.{usage, text, value_ref}
 use Rattle.visit_model.specs.Seen.{Seen, nothing, leaf, branch, extension}
 
 unfoldable pub shown : Tree → Seen
