@@ -1,5 +1,5 @@
 -- Below the root of a state whose texts are all held, its trie is seen.
-use Rattle.std.proofs.Common.{◌≡◌, ◌≢◌, ℕ, false, if◌then◌else◌, List, [], map, Some, refl, sym, ◌∙◌, ap, subst, inl, arith}
+use Rattle.std.proofs.Common.{◌≡◌, ◌≢◌, ℕ, false, if◌then◌else◌, List, [], map, Some, refl, sym, ◌∙◌, ap, subst, arith}
 use Rattle.std.specs.Prelude.{nat_eq}
 use Rattle.std.specs.Cmp.Lexicographic.{pointwise}
 use Rattle.std.specs.FinMap.{get}
@@ -12,12 +12,12 @@ use Rattle.trie_model.specs.Texts.{text}
 use Rattle.trie_model.specs.Root.{Table, Holds, zero_digest, root_of, root, subtree_at, texts_of}
 use Rattle.trie_model.proofs.Costs.{subtree_at-root, texts_of-tree_texts}
 use Rattle.trie_model.proofs.Members.{IsIn, in-append_left, all_at}
-use Rattle.trie_model.proofs.Places.{gathered, tree_texts}
+use Rattle.trie_model.proofs.Places.{tree_texts}
 use Rattle.visit_model.specs.Seen as seen
 use Rattle.visit_model.specs.Seen.{Seen, seen_at, seen}
 use Rattle.visit_model.specs.Shown.{shown}
 use Rattle.visit_model.proofs.ShownFits.{IsThere, state_fits}
-use Rattle.visit_model.proofs.ShownTrees.{tree_seen}
+use Rattle.visit_model.proofs.ShownTrees.{top_text, tree_seen}
 
 -- ---- the root
 
@@ -48,19 +48,12 @@ tree_texts_among state t h =
     let there : IsIn (tree_texts (tree_of (rows_of state))) t = subst (λ tree. IsIn (tree_texts tree) t) (subtree_at-root state) h in
     subst (λ (texts : List (List ℕ)). IsIn texts t) (sym (texts_of-tree_texts state)) (in-append_left (tree_texts (tree_of (rows_of state))) (map (λ (row : Row). row.1) (rows_of state)) t there)
 
-top_in : (tree : Tree) → IsThere tree → IsIn (tree_texts tree) (text tree)
-unfolding gathered
-top_in nothing there = absurd there
-top_in (leaf path value) there = inl refl
-top_in (branch value kids) there = inl refl
-top_in (extension path child) there = inl refl
-
 -- ---- the state
 
 pub state_seen : (table : Table) (state : State) → Holds table state → IsState state → seen table (root state) ≡ shown (subtree_at state [])
 state_seen table state held is =
     let tree : Tree = subtree_at state [] in
     root_seen table tree
-    (λ there. all_at (λ (t : List ℕ). sha256 t ≢ zero_digest) (texts_of state) (text tree) held.nonzero (tree_texts_among state (text tree) (top_in tree there)))
+    (λ there. all_at (λ (t : List ℕ). sha256 t ≢ zero_digest) (texts_of state) (text tree) held.nonzero (tree_texts_among state (text tree) (top_text tree there)))
     (λ there. tree_seen table tree 0 false (omega arith) (state_fits state is)
     (λ t h. all_at (λ (t : List ℕ). get table (sha256 t) ≡ Some t) (texts_of state) t held.found (tree_texts_among state t h)) there)

@@ -1,19 +1,19 @@
 -- What is seen of a trie whose texts are all held, and whose nodes fit, is the trie.
-use Rattle.std.proofs.Common.{◌≡◌, ℕ, ◌+◌, ◌<◌, ◌≤◌, ◌&&◌, nat_le, nat_lt, Bool, true, false, if◌then◌else◌, List, length, Option, None, Some, is_some, option_map, Result, Ok, Err, ◌⊎◌, inl, inr, refl, sym, ◌∙◌, ap, ap₂, arith}
+use Rattle.std.proofs.Common.{◌≡◌, ℕ, ◌+◌, ◌<◌, ◌≤◌, ◌&&◌, nat_le, nat_lt, Bool, true, false, if◌then◌else◌, List, length, Option, None, Some, option_map, Result, Ok, Err, ◌⊎◌, inl, inr, refl, sym, ◌∙◌, ap, ap₂, arith}
 use Rattle.std.specs.FinMap.{get}
 use Rattle.std.proofs.lemmas.Bool.{cases_lt}
 use mathlib.Core.Path.{fun_ext}
 use Rattle.sha2.specs.Sha256.{sha256}
 use Rattle.byte_model.specs.PackedPath.{longest_path}
 use Rattle.byte_model.specs.Node as node
-use Rattle.byte_model.specs.Node.{Node, ValueRef, kid_count}
+use Rattle.byte_model.specs.Node.{Node, ValueRef, longest_value, kid_count}
 use Rattle.byte_model.specs.Laws.{SameNode}
 use Rattle.record_model.specs.Records.{IsRecord, RecordFault, record_in}
 use Rattle.record_model.specs.Fits.{fits_at, has_place, is_whole}
+use Rattle.record_model.proofs.Kids.{kid_count-same}
 use Rattle.trie_model.specs.Tree.{Tree, nothing, leaf, branch, extension}
 use Rattle.trie_model.specs.Texts.{text, usage, name_of, node_of, value_ref}
 use Rattle.trie_model.specs.Root.{Table}
-use Rattle.trie_model.proofs.Joined.{sum_below-agree}
 use Rattle.trie_model.proofs.Members.{IsIn, in-joined_below}
 use Rattle.trie_model.proofs.Places.{gathered, tree_texts}
 use Rattle.visit_model.specs.Seen as seen
@@ -25,13 +25,10 @@ use Rattle.visit_model.proofs.ShownFits.{IsThere, FitsBelow}
 
 -- ---- the same node fits at the same places
 
-kid_count-same : (value other : Option ValueRef) (kids others : ℕ → Option (List ℕ)) → SameNode (node.branch value kids) (node.branch other others) → kid_count kids ≡ kid_count others
-kid_count-same value other kids others same = sum_below-agree _ _ 16 (λ x small. ap (λ (kid : Option (List ℕ)). if is_some kid then 1 else 0) (same.1 x small))
-
 branch-same : (depth : ℕ) (after_extension : Bool) (value : Option ValueRef) (kids others : ℕ → Option (List ℕ)) → kid_count kids ≡ kid_count others → fits_at depth after_extension (node.branch value kids) ≡ fits_at depth after_extension (node.branch value others)
 unfolding has_place
 branch-same depth after_extension None kids others count = ap (λ n. nat_le 2 n && nat_lt depth longest_path) count
-branch-same depth after_extension (Some value) kids others count = ap (λ n. (nat_le value.size 4194304 && nat_le 1 n) && (nat_lt depth longest_path && is_whole depth)) count
+branch-same depth after_extension (Some value) kids others count = ap (λ n. (nat_le value.size longest_value && nat_le 1 n) && (nat_lt depth longest_path && is_whole depth)) count
 
 fits_at-same : (depth : ℕ) (after_extension : Bool) (m n : Node) → SameNode m n → fits_at depth after_extension m ≡ fits_at depth after_extension n
 fits_at-same depth after_extension (node.leaf path value) (node.leaf other_path other_value) same = ap₂ (λ p v. fits_at depth after_extension (node.leaf p v)) same.0 same.1
@@ -39,11 +36,21 @@ fits_at-same depth after_extension (node.leaf path value) (node.branch other kid
 fits_at-same depth after_extension (node.leaf path value) (node.extension other child) same = absurd same
 fits_at-same depth after_extension (node.branch value kids) (node.leaf path other) same = absurd same
 fits_at-same depth after_extension (node.branch value kids) (node.branch other others) same =
-    ap (λ v. fits_at depth after_extension (node.branch v kids)) same.0 ∙ branch-same depth after_extension other kids others (kid_count-same value other kids others same)
+    ap (λ v. fits_at depth after_extension (node.branch v kids)) same.0 ∙ branch-same depth after_extension other kids others (kid_count-same kids others same.1)
 fits_at-same depth after_extension (node.branch value kids) (node.extension other child) same = absurd same
 fits_at-same depth after_extension (node.extension path child) (node.leaf other value) same = absurd same
 fits_at-same depth after_extension (node.extension path child) (node.branch value kids) same = absurd same
 fits_at-same depth after_extension (node.extension path child) (node.extension other_path other_child) same = ap₂ (λ p c. fits_at depth after_extension (node.extension p c)) same.0 same.1
+
+-- ---- the texts of a tree
+
+-- that of its top is among them
+pub top_text : (tree : Tree) → IsThere tree → IsIn (tree_texts tree) (text tree)
+unfolding gathered
+top_text nothing there = absurd there
+top_text (leaf path value) there = inl refl
+top_text (branch value kids) there = inl refl
+top_text (extension path child) there = inl refl
 
 -- ---- a text, by the record that it is
 
@@ -115,12 +122,8 @@ module _ (table : Table) where
   abbrev pub AreHeld : Tree → Type 0
   AreHeld tree = (t : List ℕ) → IsIn (tree_texts tree) t → get table (sha256 t) ≡ Some t
 
-  pub top_held : (tree : Tree) → IsThere tree → AreHeld tree → get table (sha256 (text tree)) ≡ Some (text tree)
-  unfolding gathered
-  top_held nothing there held = absurd there
-  top_held (leaf path value) there held = held (text (leaf path value)) (inl refl)
-  top_held (branch value kids) there held = held (text (branch value kids)) (inl refl)
-  top_held (extension path child) there held = held (text (extension path child)) (inl refl)
+  top_held : (tree : Tree) → IsThere tree → AreHeld tree → get table (sha256 (text tree)) ≡ Some (text tree)
+  top_held tree there held = held (text tree) (top_text tree there)
 
   kid_held : (value : Option (List ℕ)) (kids : ℕ → Tree) (x : ℕ) → x < 16 → AreHeld (branch value kids) → AreHeld (kids x)
   unfolding gathered
