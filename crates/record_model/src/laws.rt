@@ -1,13 +1,13 @@
 //! Laws over the definitions, in other words than theirs. A law is proved where its function is: there is nothing to run.
 
-ghost use Rattle.std.specs.Prelude.{◌≡◌, ◌++◌, ◌+◌, ◌*◌, ◌/◌, ℕ, List, length, take, drop, Bool, nat_lt, if◌then◌else◌, Ok, Err, IfOk, IsOkAnd};
+ghost use Rattle.std.specs.Prelude.{◌≡◌, ◌++◌, ◌+◌, ◌*◌, ◌/◌, ℕ, List, length, take, drop, Bool, nat_lt, if◌then◌else◌, Ok, Err, IfOk, IsOkAnd, Decides};
 ghost use Rattle.byte_model.specs.Nibbles.{AreBytes, AreNibbles};
 ghost use Rattle.byte_model.specs.PackedPath.{packed};
-ghost use Rattle.byte_model.specs.Node.{Node};
+ghost use Rattle.byte_model.specs.Node.{Node, IsShaped};
 ghost use Rattle.byte_model.specs.Laws.{SameNode};
 ghost use Rattle.record_model.specs.Fields.{Cursor, short, digests_at};
 ghost use Rattle.record_model.specs.Paths.{path_in};
-ghost use Rattle.record_model.specs.Records.{IsRecord, record_in};
+ghost use Rattle.record_model.specs.Records.{IsRecord, has_shape, record_in};
 
 /// Digests are read one after the other as all their bytes are read at once. Where the bytes end before, the fault is at the first digest that is not whole.
 pub fn digests_are_read_at_once()
@@ -20,6 +20,11 @@ pub fn digests_are_read_at_once()
 pub fn paths_are_read_exactly()
     ensures found { (bytes : List ℕ) → AreBytes bytes → IfOk (path_in bytes) (λ p. AreNibbles p.0 × (bytes ≡ packed p.1 p.0)) }
     ensures only { (leaf : Bool) (path : List ℕ) → AreNibbles path → path_in (packed leaf path) ≡ Ok (path, leaf) }
+{}
+
+/// The test of a node's shape passes exactly the nodes of good shape.
+pub fn shapes_are_tested()
+    ensures { (node : Node) → Decides (has_shape node) (IsShaped node) }
 {}
 
 /// Reading a record accepts exactly the spellings of nodes.
