@@ -173,16 +173,26 @@ record_in-only n usage bytes h =
     let read = node_only n h.fields h.shape in
     rw (layout, read.1) (read.2, refl)
 
--- the bytes behind a layout
+-- ---- what begins with a record
+
 abbrev left_behind : Result ((Layout × ℕ) × Cursor) FrameFault → List ℕ
 left_behind (Ok read) = read.1.left
 left_behind (Err e) = []
 
+-- reading leaves what stands behind it
+spelled-leaves : (n : Node) (usage : ℕ) (rest : List ℕ) → FitsRecord n → HasShortPath n → usage < 2 ^ 64 → left_behind (layout_at (start_of (spelled n usage ++ rest))) ≡ rest
+spelled-leaves n usage rest fields short lt =
+    ap (λ (bytes : List ℕ). left_behind (layout_at (start_of (bytes ++ rest)))) (spelled_layout-from n usage) ∙ ap left_behind (layout_again (layout_from n) usage 0 rest (layout_from-fits n fields short) lt).1
+
+pub spelled-not_front : (m n : Node) (usage other : ℕ) (more rest : List ℕ) → FitsRecord m → HasShortPath m → usage < 2 ^ 64 → FitsRecord n → HasShortPath n → other < 2 ^ 64 → spelled m usage ++ more ≡ spelled n other ++ rest → SameNode m n × (usage ≡ other) × (more ≡ rest)
+spelled-not_front m n usage other more rest fields short lt fields' short' lt' e =
+    let behind : more ≡ rest = sym (spelled-leaves m usage more fields short lt) ∙ ap (λ (bytes : List ℕ). left_behind (layout_at (start_of bytes))) e ∙ spelled-leaves n other rest fields' short' lt' in
+    let same : spelled m usage ≡ spelled n other = append_cancel_right (spelled m usage) (spelled n other) more (e ∙ ap (λ (bytes : List ℕ). spelled n other ++ bytes) (sym behind)) in
+    let both = spelled-same m n usage other fields fields' lt lt' same in
+    (both.0, both.1, behind)
+
 pub record-not_front : (m n : Node) (usage other : ℕ) (one two more rest : List ℕ) → IsRecord m usage one → IsRecord n other two → one ++ more ≡ two ++ rest → SameNode m n × (usage ≡ other) × (one ≡ two)
 record-not_front m n usage other one two more rest h k e =
-    let read : (n : Node) (usage : ℕ) (bytes rest : List ℕ) → IsRecord n usage bytes → left_behind (layout_at (start_of (bytes ++ rest))) ≡ rest = λ n usage bytes rest h.
-    ap (λ (bytes : List ℕ). left_behind (layout_at (start_of (bytes ++ rest)))) (h.spelling ∙ spelled_layout-from n usage) ∙ ap left_behind (layout_again (layout_from n) usage 0 rest (layout_from-fits n h.fields h.path) h.usage_fits).1 in
-    let same_rest : more ≡ rest = sym (read m usage one more h) ∙ ap (λ (bytes : List ℕ). left_behind (layout_at (start_of bytes))) e ∙ read n other two rest k in
-    let same : one ≡ two = append_cancel_right one two more (e ∙ ap (λ (r : List ℕ). two ++ r) (sym same_rest)) in
-    let both = spelled-same m n usage other h.fields k.fields h.usage_fits k.usage_fits (sym h.spelling ∙ same ∙ k.spelling) in
-    (both.0, both.1, same)
+    let spellings : spelled m usage ++ more ≡ spelled n other ++ rest = ap (λ (bytes : List ℕ). bytes ++ more) (sym h.spelling) ∙ e ∙ ap (λ (bytes : List ℕ). bytes ++ rest) k.spelling in
+    let both = spelled-not_front m n usage other more rest h.fields h.path h.usage_fits k.fields k.path k.usage_fits spellings in
+    (both.0, both.1, append_cancel_right one two more (e ∙ ap (λ (bytes : List ℕ). two ++ bytes) (sym both.2)))

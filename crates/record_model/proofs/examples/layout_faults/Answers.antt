@@ -2,9 +2,9 @@ use Rattle.std.proofs.Common.{refl}
 use Rattle.record_model.proofs.Worked.{everything}
 use Rattle.record_model.proofs.examples.layout_faults.Goals as goal
 
-pub returns-clause-nothing : goal.returns-clause-nothing
+pub returns-clause-no_bytes : goal.returns-clause-no_bytes
 unfolding everything
-returns-clause-nothing c = refl
+returns-clause-no_bytes c = refl
 
 pub returns-clause-cut : goal.returns-clause-cut
 unfolding everything
@@ -14,6 +14,6 @@ pub returns-clause-longer : goal.returns-clause-longer
 unfolding everything
 returns-clause-longer c = refl
 
-pub returns-clause-ordinal : goal.returns-clause-ordinal
+pub returns-clause-no_kind : goal.returns-clause-no_kind
 unfolding everything
-returns-clause-ordinal c = refl
+returns-clause-no_kind c = refl
