@@ -5,3 +5,4 @@ pub mod Fields
 pub mod Layouts
 pub mod Kids
 pub mod Nodes
+pub mod Worked

@@ -1,5 +1,5 @@
 -- The layout, the path and the shape of a record together: what is read is spelled so, and what is spelled so is read.
-use Rattle.std.proofs.Common.{◌≡◌, ℕ, ◌^◌, ◌<◌, ◌==◌, Bool, true, false, List, [], ◌∷◌, ◌++◌, length, None, Some, Result, Ok, Err, IfOk, IsOkAnd, refl, sym, ◌∙◌, ap, subst, arith, append-nil}
+use Rattle.std.proofs.Common.{◌≡◌, ℕ, ◌^◌, ◌<◌, ◌==◌, Bool, true, false, List, [], ◌∷◌, ◌++◌, length, Option, None, Some, Result, Ok, Err, IfOk, IsOkAnd, refl, sym, ◌∙◌, ap, subst, arith, append-nil}
 use Rattle.std.proofs.lemmas.Bool.{leb-true, le-leb, eqb-true, eqb-false, ne_eqb, and_parts, and_from, not-true, not_from_false}
 use Rattle.std.proofs.lemmas.List.{nil_from_length, append_cancel_right}
 use Rattle.byte_model.specs.Nibbles.{AreBytes, AreNibbles}
@@ -64,13 +64,13 @@ unfolding suited
 suited_only true path small = rw (path_in-only true path small) refl
 suited_only false path small = rw (path_in-only false path small) refl
 
-shape_found : (n : Node) → has_shape n ≡ true → IsShaped n
+pub shape_found : (n : Node) → has_shape n ≡ true → IsShaped n
 shape_found (node.leaf path value) e = leb-true _ _ e
 shape_found (node.branch None kids) e = leb-true _ _ e
 shape_found (node.branch (Some value) kids) e = let both = and_parts _ _ e in (leb-true _ _ both.0, leb-true _ _ both.1)
 shape_found (node.extension path child) e = λ empty. eqb-false (length path) 0 (not-true _ e) (ap length empty)
 
-shape_only : (n : Node) → IsShaped n → has_shape n ≡ true
+pub shape_only : (n : Node) → IsShaped n → has_shape n ≡ true
 shape_only (node.leaf path value) h = le-leb _ _ h
 shape_only (node.branch None kids) h = le-leb _ _ h
 shape_only (node.branch (Some value) kids) h = and_from _ _ (le-leb _ _ h.0) (le-leb _ _ h.1)
@@ -111,6 +111,7 @@ node_found (extension bytes child) fits small = and_then (suited_found false byt
     (h.0, fits.1)
     (subst (λ bytes. length bytes < 2 ^ 32) h.1 fits.0))
 
+-- the fields of a node's record
 abbrev layout_from : Node → Layout
 layout_from (node.leaf path value) = leaf (packed true path) value
 layout_from (node.branch value kids) = branch value (bitmap_of kids) (digests_of kids)
@@ -128,20 +129,24 @@ spelled_layout-from (node.branch None kids) usage = refl
 spelled_layout-from (node.branch (Some value) kids) usage = refl
 spelled_layout-from (node.extension path child) usage = refl
 
+-- a branch's children, read from their own bitmap and digests
+abbrev kids_again : (ℕ → Option (List ℕ)) → ℕ → Option (List ℕ)
+kids_again kids = kid_in (bitmap_of kids) (digests_of kids)
+
 node_only : (n : Node) → FitsRecord n → IsShaped n → (m : Node) × (node_in (layout_from n) ≡ Ok m) × SameNode m n
 unfolding node_in shaped
 node_only (node.leaf path value) fields shape =
     (node.leaf path value, rw (suited_only true path fields.0, shape_only (node.leaf path value) shape) refl, (refl, refl))
 node_only (node.branch None kids) fields shape =
     let same = kid_in-again kids fields.1 in
-    let many = kid_count-same (kid_in (bitmap_of kids) (digests_of kids)) kids same in
-    let shape : has_shape (node.branch None (kid_in (bitmap_of kids) (digests_of kids))) ≡ true = shape_only (node.branch None (kid_in (bitmap_of kids) (digests_of kids))) (omega (arith, many, shape)) in
-    (node.branch None (kid_in (bitmap_of kids) (digests_of kids)), rw shape refl, (refl, same))
+    let many = kid_count-same (kids_again kids) kids same in
+    let shape : has_shape (node.branch None (kids_again kids)) ≡ true = shape_only (node.branch None (kids_again kids)) (omega (arith, many, shape)) in
+    (node.branch None (kids_again kids), rw shape refl, (refl, same))
 node_only (node.branch (Some value) kids) fields shape =
     let same = kid_in-again kids fields.1 in
-    let many = kid_count-same (kid_in (bitmap_of kids) (digests_of kids)) kids same in
-    let shape : has_shape (node.branch (Some value) (kid_in (bitmap_of kids) (digests_of kids))) ≡ true = shape_only (node.branch (Some value) (kid_in (bitmap_of kids) (digests_of kids))) (shape.0, omega (arith, many, shape.1)) in
-    (node.branch (Some value) (kid_in (bitmap_of kids) (digests_of kids)), rw shape refl, (refl, same))
+    let many = kid_count-same (kids_again kids) kids same in
+    let shape : has_shape (node.branch (Some value) (kids_again kids)) ≡ true = shape_only (node.branch (Some value) (kids_again kids)) (shape.0, omega (arith, many, shape.1)) in
+    (node.branch (Some value) (kids_again kids), rw shape refl, (refl, same))
 node_only (node.extension path child) fields shape =
     (node.extension path child, rw (suited_only false path fields.0, shape_only (node.extension path child) shape) refl, (refl, refl))
 
@@ -168,16 +173,26 @@ record_in-only n usage bytes h =
     let read = node_only n h.fields h.shape in
     rw (layout, read.1) (read.2, refl)
 
--- the bytes behind a layout
+-- ---- what begins with a record
+
 abbrev left_behind : Result ((Layout × ℕ) × Cursor) FrameFault → List ℕ
 left_behind (Ok read) = read.1.left
 left_behind (Err e) = []
 
+-- reading leaves what stands behind it
+spelled-leaves : (n : Node) (usage : ℕ) (rest : List ℕ) → FitsRecord n → HasShortPath n → usage < 2 ^ 64 → left_behind (layout_at (start_of (spelled n usage ++ rest))) ≡ rest
+spelled-leaves n usage rest fields short lt =
+    ap (λ (bytes : List ℕ). left_behind (layout_at (start_of (bytes ++ rest)))) (spelled_layout-from n usage) ∙ ap left_behind (layout_again (layout_from n) usage 0 rest (layout_from-fits n fields short) lt).1
+
+pub spelled-not_front : (m n : Node) (usage other : ℕ) (more rest : List ℕ) → FitsRecord m → HasShortPath m → usage < 2 ^ 64 → FitsRecord n → HasShortPath n → other < 2 ^ 64 → spelled m usage ++ more ≡ spelled n other ++ rest → SameNode m n × (usage ≡ other) × (more ≡ rest)
+spelled-not_front m n usage other more rest fields short lt fields' short' lt' e =
+    let behind : more ≡ rest = sym (spelled-leaves m usage more fields short lt) ∙ ap (λ (bytes : List ℕ). left_behind (layout_at (start_of bytes))) e ∙ spelled-leaves n other rest fields' short' lt' in
+    let same : spelled m usage ≡ spelled n other = append_cancel_right (spelled m usage) (spelled n other) more (e ∙ ap (λ (bytes : List ℕ). spelled n other ++ bytes) (sym behind)) in
+    let both = spelled-same m n usage other fields fields' lt lt' same in
+    (both.0, both.1, behind)
+
 pub record-not_front : (m n : Node) (usage other : ℕ) (one two more rest : List ℕ) → IsRecord m usage one → IsRecord n other two → one ++ more ≡ two ++ rest → SameNode m n × (usage ≡ other) × (one ≡ two)
 record-not_front m n usage other one two more rest h k e =
-    let read : (n : Node) (usage : ℕ) (bytes rest : List ℕ) → IsRecord n usage bytes → left_behind (layout_at (start_of (bytes ++ rest))) ≡ rest = λ n usage bytes rest h.
-    ap (λ (bytes : List ℕ). left_behind (layout_at (start_of (bytes ++ rest)))) (h.spelling ∙ spelled_layout-from n usage) ∙ ap left_behind (layout_again (layout_from n) usage 0 rest (layout_from-fits n h.fields h.path) h.usage_fits).1 in
-    let same_rest : more ≡ rest = sym (read m usage one more h) ∙ ap (λ (bytes : List ℕ). left_behind (layout_at (start_of bytes))) e ∙ read n other two rest k in
-    let same : one ≡ two = append_cancel_right one two more (e ∙ ap (λ (r : List ℕ). two ++ r) (sym same_rest)) in
-    let both = spelled-same m n usage other h.fields k.fields h.usage_fits k.usage_fits (sym h.spelling ∙ same ∙ k.spelling) in
-    (both.0, both.1, same)
+    let spellings : spelled m usage ++ more ≡ spelled n other ++ rest = ap (λ (bytes : List ℕ). bytes ++ more) (sym h.spelling) ∙ e ∙ ap (λ (bytes : List ℕ). bytes ++ rest) k.spelling in
+    let both = spelled-not_front m n usage other more rest h.fields h.path h.usage_fits k.fields k.path k.usage_fits spellings in
+    (both.0, both.1, append_cancel_right one two more (e ∙ ap (λ (bytes : List ℕ). two ++ bytes) (sym both.2)))

@@ -2,3 +2,4 @@ pub mod Fields
 pub mod Paths
 pub mod Records
 pub mod Fits
+pub mod Examples

@@ -1,5 +1,8 @@
-use Rattle.record_model.proofs.Nodes.{record-not_front}
+use Rattle.record_model.proofs.Nodes.{spelled-not_front, record-not_front}
 use Rattle.record_model.proofs.laws.no_record_begins_another.Goals as goal
 
-pub returns : goal.returns
-returns c = record-not_front
+pub returns-clause-records : goal.returns-clause-records
+returns-clause-records c = record-not_front
+
+pub returns-clause-spellings : goal.returns-clause-spellings
+returns-clause-spellings c = spelled-not_front
