@@ -1,7 +1,14 @@
+ghost use Rattle.std.specs.Prelude.{◌≡◌};
+ghost use Rattle.record_model.specs.Records.{has_shape};
+ghost use Rattle.node_codec.specs.Views.{node_seen};
+
 use crate::kids_view::KidsView;
 use crate::value_ref::ValueRef;
 use base_core::Digest;
 use nibble_keys::Packed;
+
+/// The longest value, in bytes.
+const LONGEST_VALUE: u32 = 4194304;
 
 /// A node of a trie, read where its record stands. It borrows the record.
 #[derive(Debug, Drop)]
@@ -21,4 +28,22 @@ pub enum NodeView<'a> {
         path: Packed<'a>,
         child: Digest,
     },
+}
+
+impl NodeView<'_> {
+    /// What a node of any place keeps to: a value within the limit, a branch with two of children
+    /// and value at least, an extension that is not empty. It takes no memory.
+    pub fn is_shaped(&self) -> bool
+        ensures { result ≡ has_shape (node_seen self.now) }
+    {
+        match self {
+            NodeView::Leaf { value, .. } => value.length <= LONGEST_VALUE,
+            NodeView::Branch { value: None, kids } => kids.count() >= 2,
+            NodeView::Branch {
+                value: Some(value),
+                kids,
+            } => value.length <= LONGEST_VALUE && kids.count() >= 1,
+            NodeView::Extension { path, .. } => path.len() != 0,
+        }
+    }
 }

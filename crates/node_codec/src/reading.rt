@@ -2,7 +2,7 @@ ghost use Rattle.std.specs.Prelude.{◌≡◌, ℕ, List, IfOk, IsOkAnd};
 ghost use Rattle.byte_model.specs.Nibbles.{AreBytes};
 ghost use Rattle.byte_model.specs.Node.{Node};
 ghost use Rattle.byte_model.specs.Laws.{SameNode};
-ghost use Rattle.record_model.specs.Records.{IsRecord, record_in, node_in, suited, has_shape};
+ghost use Rattle.record_model.specs.Records.{IsRecord, record_in, node_in, suited};
 ghost use Rattle.node_codec.specs.Layouts.{layout_seen};
 ghost use Rattle.node_codec.specs.Views.{Gives, node_seen};
 
@@ -10,9 +10,6 @@ use crate::layout::{Layout, read_layout};
 use crate::node_error::NodeError;
 use crate::node_view::NodeView;
 use nibble_keys::{PackError, Packed};
-
-/// The longest value, in bytes.
-const LONGEST_VALUE: u32 = 4194304;
 
 /// Reads the record of a node where it stands: the node, and the usage that the record states. It
 /// takes no memory, and accepts exactly the one spelling of each node (`write_node` gives it).
@@ -57,7 +54,7 @@ fn read_fields(layout: Layout<'_>) -> Result<NodeView<'_>, NodeError>
             child,
         },
     };
-    if has_shape(&node) {
+    if node.is_shaped() {
         Ok(node)
     } else {
         Err(NodeError::Shape)
@@ -73,20 +70,5 @@ fn read_path(packed: &[u8], ends: bool) -> Result<Packed<'_>, NodeError>
         Err(error) => Err(NodeError::Path(error)),
         Ok((path, leaf)) if leaf == ends => Ok(path),
         Ok(_) => Err(NodeError::Path(PackError::Flag)),
-    }
-}
-
-/// What a node of any place keeps to.
-pub(crate) fn has_shape(node: &NodeView<'_>) -> bool
-    ensures { result ≡ has_shape (node_seen node.now) }
-{
-    match node {
-        NodeView::Leaf { value, .. } => value.length <= LONGEST_VALUE,
-        NodeView::Branch { value: None, kids } => kids.count() >= 2,
-        NodeView::Branch {
-            value: Some(value),
-            kids,
-        } => value.length <= LONGEST_VALUE && kids.count() >= 1,
-        NodeView::Extension { path, .. } => path.len() != 0,
     }
 }

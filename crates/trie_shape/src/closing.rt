@@ -13,17 +13,10 @@ ghost use Rattle.trie_shape.specs.Shows.{IsRecord, IsTop};
 
 use crate::close_error::CloseError;
 use crate::closed::Closed;
+use crate::costs::{branch_cost, extension_cost, leaf_cost};
 use base_core::{Digest, Text, digest};
-use nibble_keys::packed_len;
 use node_codec::{Kids, ValueRef, write_branch, write_extension, write_leaf};
 use std::alloc::{AllocError, Global};
-
-/// What a node costs by itself, and what each byte of its path and its value add.
-const NODE_COST: u64 = 50;
-
-const PATH_BYTE_COST: u64 = 2;
-
-const VALUE_COST: u64 = 50;
 
 /// Writes the record of a branch, whose children together have this usage.
 pub fn close_branch(
@@ -87,32 +80,5 @@ fn closed(text: Text, usage: u64) -> Closed
         text,
         digest,
         usage,
-    }
-}
-
-#[tactic(auto, unfolding(byte_model::specs::Node::own_cost))]
-fn leaf_cost(path: &[u8], value: &ValueRef) -> u64
-    requires { length path.now ≤ longest_path }
-    ensures { result ≡ own_cost (leaf path.now (value_of value.now)) }
-{
-    let value_bytes = value.length as u64;
-    NODE_COST + PATH_BYTE_COST * packed_len(path.len()) as u64 + VALUE_COST + value_bytes
-}
-
-#[tactic(auto, unfolding(byte_model::specs::Node::own_cost))]
-fn extension_cost(path: &[u8]) -> u64
-    requires { length path.now ≤ longest_path }
-    ensures { (child : List ℕ) → result ≡ own_cost (extension path.now child) }
-{
-    NODE_COST + PATH_BYTE_COST * packed_len(path.len()) as u64
-}
-
-#[tactic(auto, unfolding(byte_model::specs::Node::own_cost))]
-fn branch_cost(value: &Option<ValueRef>) -> u64
-    ensures { (kids : ℕ → Option (List ℕ)) → result ≡ own_cost (branch (option_map value_of value.now) kids) }
-{
-    match value {
-        Some(value) => NODE_COST + VALUE_COST + value.length as u64,
-        None => NODE_COST,
     }
 }

@@ -6,6 +6,8 @@ mod building;
 mod close_error;
 mod closed;
 mod closing;
+mod costs;
+mod fitting;
 mod rows;
 mod sub;
 
@@ -13,6 +15,8 @@ pub use building::{Built, build};
 pub use close_error::CloseError;
 pub use closed::Closed;
 pub use closing::close_branch;
+pub use costs::own_cost;
+pub use fitting::fits;
 pub use rows::value_ref;
 pub use sub::Sub;
 

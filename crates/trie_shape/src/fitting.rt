@@ -1,0 +1,41 @@
+ghost use Rattle.std.specs.Prelude.{◌≡◌};
+ghost use Rattle.record_model.specs.Fits.{fits_at};
+ghost use Rattle.node_codec.specs.Views.{node_seen};
+
+use node_codec::NodeView;
+
+/// The nibbles of the longest key.
+const LONGEST_PATH: u64 = 4228;
+
+/// Whether a node may stand below so many nibbles, as the child of an extension or not. It takes no
+/// memory.
+///
+/// A key ends at a whole byte and has at most 4,228 nibbles, a branch or an extension leaves room
+/// for one nibble more, and neither leaf nor extension is the child of an extension. At any place a
+/// value is within its limit, a branch has two of children and value at least, and an extension is
+/// not empty.
+#[tactic(auto, unfolding(record_model::specs::Fits::has_place))]
+pub fn fits(view: &NodeView<'_>, depth: u64, after_extension: bool) -> bool
+    ensures { result ≡ fits_at depth after_extension (node_seen view.now) }
+{
+    if !view.is_shaped() {
+        return false;
+    }
+    match view {
+        NodeView::Leaf { path, .. } => {
+            let Some(end) = depth.checked_add(path.len()) else {
+                return false;
+            };
+            end % 2 == 0 && end <= LONGEST_PATH && !after_extension
+        }
+        NodeView::Branch { value, .. } => {
+            depth < LONGEST_PATH && (value.is_none() || depth % 2 == 0)
+        }
+        NodeView::Extension { path, .. } => {
+            let Some(end) = depth.checked_add(path.len()) else {
+                return false;
+            };
+            end < LONGEST_PATH && !after_extension
+        }
+    }
+}
