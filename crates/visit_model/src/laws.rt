@@ -1,13 +1,25 @@
 //! Laws over the definitions, in other words than theirs. A law is proved where its function is: there is nothing to run.
 
-ghost use Rattle.std.specs.Prelude.{◌≡◌, ◌≤◌, ℕ, Bool, List};
+ghost use Rattle.std.specs.Prelude.{◌≡◌, ◌≤◌, ℕ, Bool, List, [], ◌++◌, map, filter, option_map, None};
 ghost use Rattle.std.specs.FinMap.{get};
+ghost use Rattle.sha2.specs.Sha256.{sha256};
+ghost use Rattle.byte_model.specs.Nibbles.{AreBytes, nibbles};
 ghost use Rattle.byte_model.specs.PackedPath.{longest_path};
-ghost use Rattle.trie_model.specs.Root.{Table};
+ghost use Rattle.trie_model.specs.Root.{Table, Holds, root, subtree_at, text_at, places_of};
+ghost use Rattle.trie_model.specs.State.{State, IsState};
 ghost use Rattle.visit_model.specs.Seen.{seen_at, seen_text, seen};
+ghost use Rattle.visit_model.specs.Shown.{shown};
+ghost use Rattle.visit_model.specs.Bounds.{has_front, at_most_one};
 ghost use Rattle.visit_model.specs.Visits.{lookup_visits, listing_visits, top_visits};
 
 /// The bound on the depth never shows.
 pub fn seen_by_text()
     ensures { (table : Table) (depth : ℕ) (after_extension : Bool) (digest : List ℕ) → depth ≤ longest_path → seen_at table depth after_extension digest ≡ seen_text (seen_at table) depth after_extension digest (get table digest) }
+{}
+
+/// Over the texts of a state, the lookup of a key visits each place on the key's path once, and then the value, if the state has the key. No test fails.
+pub fn lookup_over_state()
+    ensures digests { (table : Table) (state : State) (key : List ℕ) → Holds table state → IsState state → AreBytes key → seen table (root state) ≡ shown (subtree_at state []) → (lookup_visits table (root state) key).digests ≡ map (λ place. sha256 (text_at state place)) (filter (has_front (nibbles key)) (places_of state)) ++ at_most_one (option_map sha256 (get state key)) }
+    ensures values { (table : Table) (state : State) (key : List ℕ) → Holds table state → IsState state → AreBytes key → seen table (root state) ≡ shown (subtree_at state []) → (lookup_visits table (root state) key).values ≡ at_most_one (option_map (λ value. (nibbles key, value)) (get state key)) }
+    ensures refusal { (table : Table) (state : State) (key : List ℕ) → Holds table state → IsState state → AreBytes key → seen table (root state) ≡ shown (subtree_at state []) → (lookup_visits table (root state) key).refusal ≡ None }
 {}
