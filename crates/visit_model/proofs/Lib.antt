@@ -1,3 +1,5 @@
 pub mod Joins
 pub mod Held
 pub mod Lookups
+pub mod Rows
+pub mod Listings

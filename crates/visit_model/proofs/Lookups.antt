@@ -27,7 +27,7 @@ use Rattle.visit_model.specs.Steps.{Step, node, value, value_steps, behind as be
 use Rattle.visit_model.specs.Seen.{Seen, seen}
 use Rattle.visit_model.specs.Visits.{Visits, bad, no_visits, node_first, value_first, refused, value_visit, visits_of, lookup_visits}
 use Rattle.visit_model.specs.Bounds.{has_front, at_most_one}
-use Rattle.visit_model.proofs.Held.{HeldValue, held_values}
+use Rattle.visit_model.proofs.Held.{HeldValue, value_visit-held, held_values}
 use Rattle.visit_model.proofs.Joins.{filter-joined_below, joined_below-empty, joined_below-only}
 
 -- ---- the row that ends at a path
@@ -211,10 +211,9 @@ lookup_steps-shown = by_cases AllTold (record {
 
 -- each node of some steps is visited, and then the value, which the table holds
 visits_of-nodes : (table : Table) (digest : List ℕ → List ℕ) (places : List (List ℕ)) (path : List ℕ) (found : Option (List ℕ)) → IfSome found (λ value. get table (sha256 value) ≡ Some value) → visits_of table 1 (map (λ place. node (digest place)) places ++ value_steps path (option_map value_ref found)) ≡ record { digests = map digest places ++ at_most_one (option_map sha256 found); values = at_most_one (option_map (λ value. (path, value)) found); refusal = None }
-unfolding visits_of value_visit
+unfolding visits_of
 visits_of-nodes table digest [] path None held = refl
-visits_of-nodes table digest [] path (Some v) held =
-    ap (λ o. value_visit path (value_ref v) o no_visits) held ∙ ap (λ b. if b then value_first (sha256 v) (path, v) no_visits else refused (sha256 v) (bad (sha256 v))) (same_nibble (length v))
+visits_of-nodes table digest [] path (Some v) held = value_visit-held table path v no_visits held
 visits_of-nodes table digest (place ∷ places) path found held = ap (node_first (digest place)) (visits_of-nodes table digest places path found held)
 
 -- ---- the row of a key

@@ -1,15 +1,15 @@
 //! Laws over the definitions, in other words than theirs. A law is proved where its function is: there is nothing to run.
 
-ghost use Rattle.std.specs.Prelude.{◌≡◌, ◌≤◌, ℕ, Bool, List, [], ◌++◌, map, filter, option_map, None};
-ghost use Rattle.std.specs.FinMap.{get};
+ghost use Rattle.std.specs.Prelude.{◌≡◌, ◌≤◌, ℕ, Bool, List, [], ◌++◌, map, filter, take, option_map, None};
+ghost use Rattle.std.specs.FinMap.{get, entries};
 ghost use Rattle.sha2.specs.Sha256.{sha256};
 ghost use Rattle.byte_model.specs.Nibbles.{AreBytes, nibbles};
 ghost use Rattle.byte_model.specs.PackedPath.{longest_path};
 ghost use Rattle.trie_model.specs.Root.{Table, Holds, root, subtree_at, text_at, places_of};
-ghost use Rattle.trie_model.specs.State.{State, IsState};
+ghost use Rattle.trie_model.specs.State.{State, IsState, rows_of};
 ghost use Rattle.visit_model.specs.Seen.{seen_at, seen_text, seen};
 ghost use Rattle.visit_model.specs.Shown.{shown};
-ghost use Rattle.visit_model.specs.Bounds.{has_front, at_most_one};
+ghost use Rattle.visit_model.specs.Bounds.{has_front, reaches, at_most_one};
 ghost use Rattle.visit_model.specs.Visits.{lookup_visits, listing_visits, top_visits};
 
 /// The bound on the depth never shows.
@@ -22,4 +22,11 @@ pub fn lookup_over_state()
     ensures digests { (table : Table) (state : State) (key : List ℕ) → Holds table state → IsState state → AreBytes key → seen table (root state) ≡ shown (subtree_at state []) → (lookup_visits table (root state) key).digests ≡ map (λ place. sha256 (text_at state place)) (filter (has_front (nibbles key)) (places_of state)) ++ at_most_one (option_map sha256 (get state key)) }
     ensures values { (table : Table) (state : State) (key : List ℕ) → Holds table state → IsState state → AreBytes key → seen table (root state) ≡ shown (subtree_at state []) → (lookup_visits table (root state) key).values ≡ at_most_one (option_map (λ value. (nibbles key, value)) (get state key)) }
     ensures refusal { (table : Table) (state : State) (key : List ℕ) → Holds table state → IsState state → AreBytes key → seen table (root state) ≡ shown (subtree_at state []) → (lookup_visits table (root state) key).refusal ≡ None }
+{}
+
+/// Over the texts of a state, a listing gives the first pairs whose keys are not below the key from which it starts. No test fails.
+pub fn listing_over_state()
+    ensures rows { (table : Table) (state : State) (from : List ℕ) (most : ℕ) → Holds table state → IsState state → seen table (root state) ≡ shown (subtree_at state []) → (listing_visits table (root state) from most).values ≡ take most (filter (λ row. reaches (nibbles from) row.0) (rows_of state)) }
+    ensures pairs { (table : Table) (state : State) (from : List ℕ) (most : ℕ) → Holds table state → IsState state → seen table (root state) ≡ shown (subtree_at state []) → (listing_visits table (root state) from most).values ≡ map (λ pair. (nibbles pair.0, pair.1)) (take most (filter (λ pair. reaches from pair.0) (entries state))) }
+    ensures refusal { (table : Table) (state : State) (from : List ℕ) (most : ℕ) → Holds table state → IsState state → seen table (root state) ≡ shown (subtree_at state []) → (listing_visits table (root state) from most).refusal ≡ None }
 {}
