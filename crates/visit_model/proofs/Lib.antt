@@ -1,5 +1,9 @@
+-- Lookups, listings and the visit of the root over a state and over any texts.
 pub mod Joins
-pub mod Held
+pub mod Values
 pub mod Lookups
 pub mod Rows
 pub mod Listings
+pub mod Tops
+pub mod Fitting
+pub mod Rises

@@ -27,7 +27,7 @@ use Rattle.visit_model.specs.Shown.{shown}
 use Rattle.visit_model.specs.Steps.{Step, node, no_text, no_node, value, value_steps, behind, bound_behind, reached_steps, listing_steps}
 use Rattle.visit_model.specs.Visits.{Visits, bad, no_visits, value_first, refused, value_visit, visits_of, listing_visits}
 use Rattle.visit_model.specs.Bounds.{reaches}
-use Rattle.visit_model.proofs.Held.{HeldValue, value_visit-held, held_values}
+use Rattle.visit_model.proofs.Values.{HeldValue, value_visit-held, held_values}
 use Rattle.visit_model.proofs.Rows.{Named, beneath, beneath-nil, name_here, named, named_in, reaching, named-listing_steps}
 
 -- ---- what is seen of a trie names its rows

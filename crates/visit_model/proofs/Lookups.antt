@@ -27,7 +27,7 @@ use Rattle.visit_model.specs.Steps.{Step, node, value, value_steps, behind as be
 use Rattle.visit_model.specs.Seen.{Seen, seen}
 use Rattle.visit_model.specs.Visits.{Visits, bad, no_visits, node_first, value_first, refused, value_visit, visits_of, lookup_visits}
 use Rattle.visit_model.specs.Bounds.{has_front, at_most_one}
-use Rattle.visit_model.proofs.Held.{HeldValue, value_visit-held, held_values}
+use Rattle.visit_model.proofs.Values.{HeldValue, value_visit-held, held_values}
 use Rattle.visit_model.proofs.Joins.{filter-joined_below, joined_below-empty, joined_below-only}
 
 -- ---- the row that ends at a path

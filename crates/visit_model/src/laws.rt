@@ -1,7 +1,11 @@
 //! Laws over the definitions, in other words than theirs. A law is proved where its function is: there is nothing to run.
 
-ghost use Rattle.std.specs.Prelude.{◌≡◌, ◌≤◌, ℕ, Bool, List, [], ◌++◌, map, filter, take, option_map, None};
-ghost use Rattle.std.specs.FinMap.{get, entries};
+ghost use Rattle.std.specs.Prelude.{◌≡◌, ◌≢◌, ◌≤◌, ℕ, Bool, List, [], ◌∷◌, ◌++◌, length, map, filter, take, option_map, None};
+ghost use Rattle.std.specs.List.{AllByRecursion};
+ghost use Rattle.std.specs.List.Sorted.{IsStrictlySortedBy};
+ghost use Rattle.std.specs.Ordering.{nat_cmp};
+ghost use Rattle.std.specs.Cmp.Lexicographic.{slice_cmp};
+ghost use Rattle.std.specs.FinMap.{get, entries, empty};
 ghost use Rattle.sha2.specs.Sha256.{sha256};
 ghost use Rattle.byte_model.specs.Nibbles.{AreBytes, nibbles};
 ghost use Rattle.byte_model.specs.PackedPath.{longest_path};
@@ -9,8 +13,8 @@ ghost use Rattle.trie_model.specs.Root.{Table, Holds, root, subtree_at, text_at,
 ghost use Rattle.trie_model.specs.State.{State, IsState, rows_of};
 ghost use Rattle.visit_model.specs.Seen.{seen_at, seen_text, seen};
 ghost use Rattle.visit_model.specs.Shown.{shown};
-ghost use Rattle.visit_model.specs.Bounds.{has_front, reaches, at_most_one};
-ghost use Rattle.visit_model.specs.Visits.{lookup_visits, listing_visits, top_visits};
+ghost use Rattle.visit_model.specs.Bounds.{has_front, reaches, at_most_one, IsListed};
+ghost use Rattle.visit_model.specs.Visits.{lookup_visits, listing_visits, top_visits, no_visits, node_first};
 
 /// The bound on the depth never shows.
 pub fn seen_by_text()
@@ -29,4 +33,17 @@ pub fn listing_over_state()
     ensures rows { (table : Table) (state : State) (from : List ℕ) (most : ℕ) → Holds table state → IsState state → seen table (root state) ≡ shown (subtree_at state []) → (listing_visits table (root state) from most).values ≡ take most (filter (λ row. reaches (nibbles from) row.0) (rows_of state)) }
     ensures pairs { (table : Table) (state : State) (from : List ℕ) (most : ℕ) → Holds table state → IsState state → seen table (root state) ≡ shown (subtree_at state []) → (listing_visits table (root state) from most).values ≡ map (λ pair. (nibbles pair.0, pair.1)) (take most (filter (λ pair. reaches from pair.0) (entries state))) }
     ensures refusal { (table : Table) (state : State) (from : List ℕ) (most : ℕ) → Holds table state → IsState state → seen table (root state) ≡ shown (subtree_at state []) → (listing_visits table (root state) from most).refusal ≡ None }
+{}
+
+/// Over any texts, the rows of a listing rise by path, there are at most so many as were asked for, and each keeps to the limits.
+pub fn listing_rises()
+    ensures rising { (table : Table) (root from : List ℕ) (most : ℕ) → IsStrictlySortedBy (slice_cmp nat_cmp) (map (λ row. row.0) (listing_visits table root from most).values) }
+    ensures count { (table : Table) (root from : List ℕ) (most : ℕ) → length (listing_visits table root from most).values ≤ most }
+    ensures rows { (table : Table) (root from : List ℕ) (most : ℕ) → AllByRecursion (IsListed (nibbles from)) (listing_visits table root from most).values }
+{}
+
+/// The visit of the root of a state is that of one text, and of none where the state is empty.
+pub fn top_over_state()
+    ensures empty { (table : Table) → top_visits table (root empty) ≡ no_visits }
+    ensures some { (table : Table) (state : State) → Holds table state → state ≢ empty → seen table (root state) ≡ shown (subtree_at state []) → top_visits table (root state) ≡ node_first (root state) no_visits }
 {}
