@@ -1,5 +1,5 @@
 -- What holds of each value that is seen, by the nodes that were read: keys of whole bytes, and key and value within the limits.
-use Rattle.std.proofs.Common.{◌≡◌, ℕ, zero, suc, ◌+◌, ◌-◌, ◌%◌, ◌<◌, ◌≤◌, ◌==◌, ◌&&◌, not, nat_le, nat_lt, nat_eq, Bool, true, false, if◌then◌else◌, List, [], ◌∷◌, ◌++◌, map, length, Option, None, Some, Result, Ok, Err, refl, sym, ◌∙◌, ap, arith, length-append}
+use Rattle.std.proofs.Common.{◌≡◌, ℕ, zero, suc, ◌+◌, ◌-◌, ◌%◌, ◌<◌, ◌≤◌, ◌&&◌, not, nat_le, nat_lt, nat_eq, Bool, true, false, if◌then◌else◌, List, [], ◌∷◌, ◌++◌, length, Option, None, Some, Result, Ok, Err, refl, sym, ◌∙◌, ap, arith, length-append}
 use Rattle.std.specs.List.{AllByRecursion}
 use Rattle.std.specs.Cmp.Lexicographic.{pointwise}
 use Rattle.std.specs.FinMap.{get}
@@ -8,10 +8,10 @@ use Rattle.byte_model.specs.Below.{joined_below}
 use Rattle.byte_model.specs.PackedPath.{longest_path}
 use Rattle.byte_model.specs.Node as node
 use Rattle.byte_model.specs.Node.{Node, ValueRef, longest_value, kid_count}
-use Rattle.record_model.specs.Records.{RecordFault, record_in, has_shape}
+use Rattle.record_model.specs.Records.{RecordFault, record_in}
 use Rattle.record_model.specs.Fits.{is_whole, has_place, fits_at}
 use Rattle.trie_model.specs.Root.{Table, zero_digest}
-use Rattle.visit_model.specs.Seen.{Seen, nothing, missing, bad, leaf, branch, extension, Looks, seen_kid, seen_node, seen_record, seen_text, seen_within, seen_at, seen}
+use Rattle.visit_model.specs.Seen.{Seen, nothing, bad, Looks, seen_kid, seen_node, seen_record, seen_text, seen_within, seen_at, seen}
 use Rattle.visit_model.proofs.Rows.{Named, beneath, name_here, named_in}
 
 -- ---- a property that passes from each node to its parent

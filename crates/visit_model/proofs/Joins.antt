@@ -1,5 +1,5 @@
 -- Lists joined over the numbers below a bound: what a test keeps of them, and where all but one are empty.
-use Rattle.std.proofs.Common.{◌≡◌, ◌≢◌, ℕ, zero, suc, ◌<◌, ◌≤◌, Bool, List, [], ◌∷◌, ◌++◌, filter, refl, ◌∙◌, ap, ap₂, subst, append-nil, arith, inl, inr}
+use Rattle.std.proofs.Common.{◌≡◌, ◌≢◌, ℕ, zero, suc, ◌<◌, Bool, List, [], ◌++◌, filter, refl, ◌∙◌, ap, ap₂, append-nil, arith, inl, inr}
 use Rattle.std.proofs.lemmas.Bool.{cases_lt}
 use Rattle.std.proofs.lemmas.List.Elements.{filter-append}
 use Rattle.byte_model.specs.Below.{joined_below}

@@ -7,3 +7,5 @@ pub mod Listings
 pub mod Tops
 pub mod Fitting
 pub mod Rises
+pub mod Bytes
+pub mod Collected

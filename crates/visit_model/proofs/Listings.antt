@@ -1,9 +1,8 @@
 -- The listing of a state: its rows from a path on, of which none fails.
-use Rattle.std.proofs.Common.{◌≡◌, ℕ, zero, suc, ◌<◌, ◌==◌, Bool, true, false, if◌then◌else◌, List, [], ◌∷◌, ◌++◌, map, filter, cond, take, length, Option, None, Some, option_map, refl, sym, ◌∙◌, ap, ap₂, subst, append_assoc, arith, inl, inr, nat_cmp}
+use Rattle.std.proofs.Common.{◌≡◌, ℕ, zero, suc, Bool, true, false, List, [], ◌∷◌, ◌++◌, map, filter, cond, take, Option, None, Some, option_map, refl, sym, ◌∙◌, ap, ap₂, subst}
 use Rattle.std.specs.Prelude.{⊤}
 use Rattle.std.specs.List.{AllByRecursion}
 use Rattle.std.specs.Ordering.{is_ge}
-use Rattle.std.specs.Cmp.Lexicographic.{slice_cmp}
 use Rattle.std.specs.FinMap.{get, entries}
 use Rattle.std.proofs.lemmas.List.{map-append}
 use Rattle.sha2.specs.Sha256.{sha256}
@@ -21,11 +20,11 @@ use Rattle.trie_model.proofs.Costs.{subtree_at-root}
 use Rattle.trie_model.proofs.Joined.{joined_below-agree, map-joined_below}
 use Rattle.trie_model.proofs.Order.{rising-rows_of}
 use Rattle.trie_model.proofs.Pairs.{here, held, held-tree_of, small-rows_of}
-use Rattle.trie_model.proofs.Rests.{same_nibble, under}
-use Rattle.visit_model.specs.Seen.{Seen, seen}
+use Rattle.trie_model.proofs.Rests.{under}
+use Rattle.visit_model.specs.Seen.{seen}
 use Rattle.visit_model.specs.Shown.{shown}
-use Rattle.visit_model.specs.Steps.{Step, node, no_text, no_node, value, value_steps, behind, bound_behind, reached_steps, listing_steps}
-use Rattle.visit_model.specs.Visits.{Visits, bad, no_visits, value_first, refused, value_visit, visits_of, listing_visits}
+use Rattle.visit_model.specs.Steps.{Step, node, no_text, no_node, value, behind, bound_behind, reached_steps, listing_steps}
+use Rattle.visit_model.specs.Visits.{Visits, value_first, value_visit, visits_of, listing_visits}
 use Rattle.visit_model.specs.Bounds.{reaches}
 use Rattle.visit_model.proofs.Values.{HeldValue, value_visit-held, held_values}
 use Rattle.visit_model.proofs.Rows.{Named, beneath, beneath-nil, name_here, named, named_in, reaching, named-listing_steps}

@@ -1,5 +1,5 @@
 -- The lookup of a key over the trie of some rows: the places on the key's path, and the row of the key.
-use Rattle.std.proofs.Common.{◌≡◌, ◌≢◌, ℕ, zero, suc, ◌<◌, ◌==◌, Bool, true, false, if◌then◌else◌, List, [], ◌∷◌, ◌++◌, map, filter, cond, is_some, length, Option, None, Some, option_map, option_and_then, IfSome, nat_eq, nat_cmp, Ordering, Less, Equal, Greater, refl, sym, ◌∙◌, ap, ap₂, subst, append_assoc, append-nil, arith, inl, inr}
+use Rattle.std.proofs.Common.{◌≡◌, ◌≢◌, ℕ, ◌<◌, ◌==◌, Bool, true, false, if◌then◌else◌, List, [], ◌∷◌, ◌++◌, map, filter, cond, is_some, Option, None, Some, option_map, option_and_then, IfSome, nat_eq, nat_cmp, Ordering, Less, Equal, Greater, refl, sym, ◌∙◌, ap, ap₂, subst, append_assoc, append-nil, arith}
 use Rattle.std.specs.List.{cons_option}
 use Rattle.std.specs.List.{AllByRecursion}
 use Rattle.std.specs.Ordering.{is_eq}
@@ -7,25 +7,23 @@ use Rattle.std.specs.Cmp.Lexicographic.{slice_cmp, nat_list_cmp_total, pointwise
 use Rattle.std.specs.FinMap.{get, get-entries, entries, find, slice_cmp-IsAntisymmetric, nat_cmp-IsAntisymmetric}
 use Rattle.std.proofs.lemmas.Cmp.{tied_itself}
 use Rattle.std.proofs.lemmas.Bool.Decides.{nat_tests}
-use Rattle.std.proofs.lemmas.Bool.{cases_lt, cases_eq}
 use Rattle.sha2.specs.Sha256.{sha256}
 use Rattle.byte_model.specs.Below.{joined_below}
 use Rattle.byte_model.specs.Nibbles.{AreBytes, AreNibbles, nibbles}
 use Rattle.byte_model.proofs.Digits.{AreNibbles-nibbles, nibbles-same}
-use Rattle.byte_model.specs.Node.{ValueRef}
 use Rattle.trie_model.specs.State.{State, Row, rows_of}
-use Rattle.trie_model.specs.Tree.{Tree, nothing, leaf, branch, extension, rest_behind, below, ends_here, tree_of}
+use Rattle.trie_model.specs.Tree.{Tree, branch, extension, rest_behind, below, ends_here, tree_of}
 use Rattle.trie_model.specs.Texts.{text, value_ref, behind, places}
 use Rattle.trie_model.specs.Root.{Table, Holds, root, subtree_at, text_at, places_of}
 use Rattle.trie_model.proofs.Worked.{Pair, rows_of_pairs}
 use Rattle.trie_model.proofs.Costs.{subtree_at-root}
 use Rattle.trie_model.proofs.Places.{at_place, map-behind}
-use Rattle.trie_model.proofs.Rests.{same_nibble, rest_behind-nil, rest_behind-append, rest_behind-front, front_and_rest, below-nil, below-append, AllHaveFront, common_front-all}
+use Rattle.trie_model.proofs.Rests.{same_nibble, rest_behind-append, rest_behind-front, front_and_rest, below-nil, below-append, AllHaveFront, common_front-all}
 use Rattle.trie_model.proofs.Trees.{tree_of-nil, tree_of-one, tree_of-forks, tree_of-shares, by_cases}
 use Rattle.visit_model.specs.Shown.{shown}
 use Rattle.visit_model.specs.Steps.{Step, node, value, value_steps, behind as behind_front, lookup_steps}
-use Rattle.visit_model.specs.Seen.{Seen, seen}
-use Rattle.visit_model.specs.Visits.{Visits, bad, no_visits, node_first, value_first, refused, value_visit, visits_of, lookup_visits}
+use Rattle.visit_model.specs.Seen.{seen}
+use Rattle.visit_model.specs.Visits.{Visits, no_visits, node_first, visits_of, lookup_visits}
 use Rattle.visit_model.specs.Bounds.{has_front, at_most_one}
 use Rattle.visit_model.proofs.Values.{HeldValue, value_visit-held, held_values}
 use Rattle.visit_model.proofs.Joins.{filter-joined_below, joined_below-empty, joined_below-only}

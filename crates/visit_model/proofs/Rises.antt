@@ -1,31 +1,31 @@
 -- Over any set of texts, what a listing gives rises by path, and its paths and values are within the limits.
-use Rattle.std.proofs.Common.{◌≡◌, ℕ, zero, suc, ◌+◌, ◌%◌, ◌<◌, ◌≤◌, ◌==◌, ◌&&◌, not, nat_le, nat_lt, Bool, true, false, if◌then◌else◌, List, [], ◌∷◌, ◌++◌, map, filter, cond, length, Option, None, Some, Result, Ok, Err, refl, sym, ◌∙◌, ap, ap₂, subst, arith, nat_cmp, Less, inl, inr}
+use Rattle.std.proofs.Common.{◌≡◌, ℕ, zero, suc, ◌+◌, ◌%◌, ◌^◌, ◌<◌, ◌≤◌, ◌==◌, true, false, if◌then◌else◌, List, [], ◌∷◌, ◌++◌, map, filter, cond, length, Option, None, Some, refl, sym, ◌∙◌, ap, subst, arith, nat_cmp, Less, inl, inr}
 use Rattle.std.specs.List.{AllByRecursion}
 use Rattle.std.specs.List.Sorted.{IsStrictlySortedBy}
-use Rattle.std.specs.Cmp.Lexicographic.{slice_cmp, pointwise}
+use Rattle.std.specs.Cmp.Lexicographic.{slice_cmp}
 use Rattle.std.specs.FinMap.{get}
 use Rattle.std.proofs.lemmas.List.{map-append}
 use Rattle.std.proofs.lemmas.List.Kept.{IsStrictlySortedBy-filter}
 use Rattle.byte_model.specs.Below.{joined_below}
-use Rattle.byte_model.specs.Nibbles.{nibbles}
+use Rattle.byte_model.specs.Nibbles.{AreBytes, AreNibbles, nibbles}
 use Rattle.byte_model.specs.PackedPath.{longest_path}
-use Rattle.byte_model.specs.Node as node
-use Rattle.byte_model.specs.Node.{Node, ValueRef, longest_value}
-use Rattle.record_model.specs.Records.{RecordFault, record_in, has_shape}
-use Rattle.record_model.specs.Fits.{has_place, fits_at}
-use Rattle.trie_model.specs.State.{Row}
+use Rattle.byte_model.specs.Node.{ValueRef, longest_value}
+use Rattle.trie_model.specs.State.{State, Row, IsState, rows_of}
 use Rattle.trie_model.specs.Texts.{behind}
-use Rattle.trie_model.specs.Root.{Table, zero_digest}
+use Rattle.trie_model.specs.Root.{Table}
 use Rattle.trie_model.proofs.Joined.{joined_below-agree, map-joined_below}
 use Rattle.trie_model.proofs.Members.{IsIn, in_map_from, in_joined_below_from}
 use Rattle.trie_model.proofs.Rests.{equal_of_test}
 use Rattle.trie_model.proofs.Order.{Before, Rising, before_by_first, rising-append, rising-behind}
-use Rattle.visit_model.specs.Seen.{Seen, nothing, missing, bad, leaf, branch, extension, Looks, seen_kid, seen_node, seen_record, seen_text, seen_within, seen_at, seen}
+use Rattle.visit_model.specs.Seen.{Seen, nothing, missing, bad, leaf, branch, extension, seen}
 use Rattle.visit_model.specs.Steps as step
 use Rattle.visit_model.specs.Steps.{Step, listing_steps}
 use Rattle.visit_model.specs.Visits as refusal
 use Rattle.visit_model.specs.Visits.{Visits, Refusal, value_first, refused, value_visit, visits_of, listing_visits}
 use Rattle.visit_model.specs.Bounds.{reaches, IsListed}
+use Rattle.visit_model.specs.Keys.{AreByteTexts}
+use Rattle.visit_model.proofs.Bytes.{nibbles-seen}
+use Rattle.visit_model.proofs.Collected.{state-rising}
 use Rattle.visit_model.proofs.Fitting.{FitsBelow, fit-seen}
 use Rattle.visit_model.proofs.Rows.{Named, beneath, beneath-nil, name_here, named, named_in, reaching, named-listing_steps}
 
@@ -193,3 +193,24 @@ listing-rises table root from most =
     rising-front (map (λ row. row.0) (listing_visits table root from most).values) reads.others
     (subst Rising (sym (paths_of-reaching bound names) ∙ ap paths_of (sym (listed_names table root from)) ∙ reads.front)
     (IsStrictlySortedBy-filter (slice_cmp nat_cmp) (reaches bound) (paths_of names) (rising-named_in (seen table root))))
+
+-- ---- over texts of bytes
+
+all-both : (P Q : Row → Type 0) (rows : List Row) → AllByRecursion P rows → AllByRecursion Q rows → AllByRecursion (λ row. P row × Q row) rows
+all-both P Q [] h k = tt
+all-both P Q (row ∷ rows) h k = ((h.0, k.0), all-both P Q rows h.1 k.1)
+
+pub listing-bytes : (table : Table) (root from : List ℕ) (most : ℕ) → AreByteTexts table → AllByRecursion (λ row. AreNibbles row.0 × AreBytes row.1) (listing_visits table root from most).values
+listing-bytes table root from most bytes =
+    let bound : List ℕ = nibbles from in
+    let names : List Named = named_in (seen table root) in
+    let reads : ReadsFront (λ row. AreNibbles row.0 × AreBytes row.1) most (named (listing_steps (seen table root) [] bound)) (listing_visits table root from most) =
+    reads_front table (λ name. AreNibbles name.0 × (reaches bound name.0 ≡ true)) (λ row. AreNibbles row.0 × AreBytes row.1) (λ path ref text small held long. (small.0, bytes ref.digest text held)) most (listing_steps (seen table root) [] bound)
+    (subst (AllByRecursion (λ name. AreNibbles name.0 × (reaches bound name.0 ≡ true))) (sym (listed_names table root from)) (all-reaching (λ name. AreNibbles name.0) bound names (nibbles-seen table root bytes))) in
+    reads.each
+
+pub listing-state : (table : Table) (root from : List ℕ) (most : ℕ) → AreByteTexts table → most ≤ 2 ^ 32 → (state : State) × IsState state × (rows_of state ≡ (listing_visits table root from most).values)
+listing-state table root from most bytes small =
+    let rows : List Row = (listing_visits table root from most).values in
+    let few : length rows ≤ most = listing-few table root from most in
+    state-rising (nibbles from) rows (listing-rises table root from most) (all-both (IsListed (nibbles from)) (λ row. AreNibbles row.0 × AreBytes row.1) rows (listing-fits table root from most) (listing-bytes table root from most bytes)) (omega arith)

@@ -1,5 +1,5 @@
 -- The values that a listing names over anything that is seen: those of all keys that reach the bound.
-use Rattle.std.proofs.Common.{◌≡◌, ℕ, zero, suc, ◌<◌, ◌==◌, nat_lt, Bool, true, false, if◌then◌else◌, List, [], ◌∷◌, ◌++◌, map, filter, cond, Option, None, Some, refl, sym, ◌∙◌, ap, ap₂, append_assoc, append-nil, arith, nat_cmp, Ordering, Less, Equal, Greater}
+use Rattle.std.proofs.Common.{◌≡◌, ℕ, zero, suc, ◌==◌, nat_lt, Bool, true, false, if◌then◌else◌, List, [], ◌∷◌, ◌++◌, map, filter, cond, Option, None, Some, refl, sym, ◌∙◌, ap, ap₂, append_assoc, append-nil, arith, nat_cmp, Less, Equal, Greater}
 use Rattle.std.specs.Ordering.{is_ge, ordering_then}
 use Rattle.std.specs.Cmp.Lexicographic.{slice_cmp}
 use Rattle.std.proofs.lemmas.Bool.Decides.{nat_tests}
@@ -9,7 +9,7 @@ use Rattle.byte_model.specs.Below.{joined_below}
 use Rattle.byte_model.specs.Node.{ValueRef}
 use Rattle.trie_model.proofs.Joined.{joined_below-agree, map-joined_below}
 use Rattle.visit_model.specs.Seen.{Seen, nothing, missing, bad, leaf, branch, extension}
-use Rattle.visit_model.specs.Steps.{Step, node, no_text, no_node, value, value_steps, behind, bound_behind, reached_steps, listing_steps}
+use Rattle.visit_model.specs.Steps.{Step, node, no_text, no_node, value, behind, bound_behind, reached_steps, listing_steps}
 use Rattle.visit_model.specs.Bounds.{reaches}
 use Rattle.visit_model.proofs.Joins.{filter-joined_below}
 

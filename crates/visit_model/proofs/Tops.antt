@@ -1,19 +1,17 @@
 -- The visit of the root of a state.
-use Rattle.std.proofs.Common.{◌≡◌, ◌≢◌, ℕ, List, [], ◌∷◌, None, ap, sym, ◌∙◌, refl}
+use Rattle.std.proofs.Common.{◌≡◌, ◌≢◌, [], ap, ◌∙◌, refl}
 use Rattle.std.specs.FinMap.{empty}
-use Rattle.sha2.specs.Sha256.{sha256}
 use Rattle.trie_model.specs.State.{State}
 use Rattle.trie_model.specs.Tree as tree
 use Rattle.trie_model.specs.Tree.{Tree}
-use Rattle.trie_model.specs.Texts.{text}
 use Rattle.trie_model.specs.Root.{Table, Holds, root, root_of, subtree_at, texts_of}
 use Rattle.trie_model.proofs.Members.{all_at, in_of_contains}
 use Rattle.trie_model.proofs.Roots.{root-zero}
 use Rattle.trie_model.proofs.Worked.{root-empty}
-use Rattle.visit_model.specs.Seen.{Seen, seen, nothing}
+use Rattle.visit_model.specs.Seen.{seen}
 use Rattle.visit_model.specs.Shown.{shown}
 use Rattle.visit_model.specs.Steps.{top_steps}
-use Rattle.visit_model.specs.Visits.{Visits, no_visits, node_first, visits_of, top_visits}
+use Rattle.visit_model.specs.Visits.{no_visits, node_first, visits_of, top_visits}
 
 -- the zero digest is visited in no table
 pub top_visits-empty : (table : Table) → top_visits table (root empty) ≡ no_visits

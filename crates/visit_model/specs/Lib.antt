@@ -3,3 +3,4 @@ pub mod Steps
 pub mod Visits
 pub mod Shown
 pub mod Bounds
+pub mod Keys

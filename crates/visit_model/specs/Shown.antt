@@ -1,5 +1,4 @@
 -- What is seen of a trie whose texts are all there: each node under the digest of its text.
-use Rattle.std.specs.Prelude.{ℕ, List, Option}
 use Rattle.std.specs.Option.{option_map}
 use Rattle.sha2.specs.Sha256.{sha256}
 use Rattle.trie_model.specs.Tree as tree
