@@ -1,6 +1,6 @@
 -- Reading the fields of a record from left to right (Borsh 1.0), with the place of the first that is not whole.
 use Rattle.std.specs.Prelude.{ℕ, zero, suc, ◌+◌, ◌==◌, nat_lt, List, [], ◌++◌, length, take, drop, Result, Ok, Err, if◌then◌else◌}
-use Rattle.std.specs.Int.{Width, w8, w16, w32, w64, byte_len, from_le_bytes}
+use Rattle.std.specs.Int.{Width, w32, byte_len, from_le_bytes}
 
 -- What is wrong with a layout, and at which byte, counted from 0: a fixed field or the body of a vector that begins there runs past the end; bytes are left over from there on; the byte there is no ordinal.
 pub data FrameFault : Type 0 where

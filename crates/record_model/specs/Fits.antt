@@ -1,5 +1,5 @@
 -- What fits at a place of a trie. A key has at most 4,228 nibbles, two for each byte, and below an extension stands a branch.
-use Rattle.std.specs.Prelude.{ℕ, ◌+◌, ◌%◌, ◌==◌, ◌&&◌, not, nat_le, nat_lt, Bool, true, false, List, length, Option, None, Some, if◌then◌else◌}
+use Rattle.std.specs.Prelude.{ℕ, ◌+◌, ◌%◌, ◌==◌, ◌&&◌, not, nat_le, nat_lt, Bool, length, None, Some}
 use Rattle.byte_model.specs.PackedPath.{longest_path}
 use Rattle.byte_model.specs.Node.{Node, leaf, branch, extension}
 use Rattle.record_model.specs.Records.{has_shape}

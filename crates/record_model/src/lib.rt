@@ -2,3 +2,4 @@
 //! them.
 #![tactic(auto)]
 
+pub mod laws;

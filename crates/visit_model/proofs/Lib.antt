@@ -1,4 +1,9 @@
--- Lookups, listings and the visit of the root over a state and over any texts.
+pub mod SeenBounds
+pub mod ShownRecords
+pub mod ShownFits
+pub mod ShownTrees
+pub mod ShownStates
+-- Lookups, listings and the visit of the root, over a state and over any texts.
 pub mod Joins
 pub mod Values
 pub mod Lookups
@@ -6,6 +11,6 @@ pub mod Rows
 pub mod Listings
 pub mod Tops
 pub mod Fitting
-pub mod Rises
 pub mod Bytes
 pub mod Collected
+pub mod Rises

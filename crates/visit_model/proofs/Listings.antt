@@ -14,7 +14,7 @@ use Rattle.trie_model.specs.State.{State, Row, IsState, rows_of}
 use Rattle.trie_model.specs.Tree as tree
 use Rattle.trie_model.specs.Tree.{Tree, tree_of}
 use Rattle.trie_model.specs.Texts.{value_ref}
-use Rattle.trie_model.specs.Root.{Table, Holds, root, subtree_at}
+use Rattle.trie_model.specs.Root.{Table, Holds, root}
 use Rattle.trie_model.proofs.Worked.{Pair, rows_of_pairs}
 use Rattle.trie_model.proofs.Costs.{subtree_at-root}
 use Rattle.trie_model.proofs.Joined.{joined_below-agree, map-joined_below}
@@ -26,6 +26,7 @@ use Rattle.visit_model.specs.Shown.{shown}
 use Rattle.visit_model.specs.Steps.{Step, node, no_text, no_node, value, behind, bound_behind, reached_steps, listing_steps}
 use Rattle.visit_model.specs.Visits.{Visits, value_first, value_visit, visits_of, listing_visits}
 use Rattle.visit_model.specs.Bounds.{reaches}
+use Rattle.visit_model.proofs.ShownStates.{state_seen}
 use Rattle.visit_model.proofs.Values.{HeldValue, value_visit-held, held_values}
 use Rattle.visit_model.proofs.Rows.{Named, beneath, beneath-nil, name_here, named, named_in, reaching, named-listing_steps}
 
@@ -166,12 +167,12 @@ all-filter P test (row ∷ rows) h =
 abbrev pub rows_from : State → List ℕ → List Row
 rows_from state path = filter (λ row. reaches path row.0) (rows_of state)
 
-pub reads-state : (table : Table) (state : State) (from : List ℕ) (most : ℕ) → Holds table state → IsState state → seen table (root state) ≡ shown (subtree_at state []) → Reads (listing_visits table (root state) from most) (take most (rows_from state (nibbles from)))
-reads-state table state from most holds is is_seen =
+pub reads-state : (table : Table) (state : State) (from : List ℕ) (most : ℕ) → Holds table state → IsState state → Reads (listing_visits table (root state) from most) (take most (rows_from state (nibbles from)))
+reads-state table state from most holds is =
     let rows : List Row = rows_of state in
     let path : List ℕ = nibbles from in
     let t : Tree = tree_of rows in
-    let same : listing_steps (seen table (root state)) [] path ≡ listing_steps (shown t) [] path = ap (λ s. listing_steps s [] path) (is_seen ∙ ap shown (subtree_at-root state)) in
+    let same : listing_steps (seen table (root state)) [] path ≡ listing_steps (shown t) [] path = ap (λ s. listing_steps s [] path) (state_seen table state holds is ∙ ap shown (subtree_at-root state)) in
     let names : named (listing_steps (shown t) [] path) ≡ map name_of_row (rows_from state path) =
     named-listing_steps (shown t) [] path
     ∙ beneath-nil (reaching path (named_in (shown t)))

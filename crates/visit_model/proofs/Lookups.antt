@@ -11,7 +11,7 @@ use Rattle.sha2.specs.Sha256.{sha256}
 use Rattle.byte_model.specs.Below.{joined_below}
 use Rattle.byte_model.specs.Nibbles.{AreBytes, AreNibbles, nibbles}
 use Rattle.byte_model.proofs.Digits.{AreNibbles-nibbles, nibbles-same}
-use Rattle.trie_model.specs.State.{State, Row, rows_of}
+use Rattle.trie_model.specs.State.{State, Row, IsState, rows_of}
 use Rattle.trie_model.specs.Tree.{Tree, branch, extension, rest_behind, below, ends_here, tree_of}
 use Rattle.trie_model.specs.Texts.{text, value_ref, behind, places}
 use Rattle.trie_model.specs.Root.{Table, Holds, root, subtree_at, text_at, places_of}
@@ -22,9 +22,9 @@ use Rattle.trie_model.proofs.Rests.{same_nibble, rest_behind-append, rest_behind
 use Rattle.trie_model.proofs.Trees.{tree_of-nil, tree_of-one, tree_of-forks, tree_of-shares, by_cases}
 use Rattle.visit_model.specs.Shown.{shown}
 use Rattle.visit_model.specs.Steps.{Step, node, value, value_steps, behind as behind_front, lookup_steps}
-use Rattle.visit_model.specs.Seen.{seen}
 use Rattle.visit_model.specs.Visits.{Visits, no_visits, node_first, visits_of, lookup_visits}
 use Rattle.visit_model.specs.Bounds.{has_front, at_most_one}
+use Rattle.visit_model.proofs.ShownStates.{state_seen}
 use Rattle.visit_model.proofs.Values.{HeldValue, value_visit-held, held_values}
 use Rattle.visit_model.proofs.Joins.{filter-joined_below, joined_below-empty, joined_below-only}
 
@@ -247,14 +247,14 @@ lookup_of state key = record {
   refusal = None;
 }
 
-pub lookup_visits-state : (table : Table) (state : State) (key : List ℕ) → Holds table state → AreBytes key → seen table (root state) ≡ shown (subtree_at state []) → lookup_visits table (root state) key ≡ lookup_of state key
+pub lookup_visits-state : (table : Table) (state : State) (key : List ℕ) → Holds table state → IsState state → AreBytes key → lookup_visits table (root state) key ≡ lookup_of state key
 unfolding subtree_at
-lookup_visits-state table state key held bytes is_seen =
+lookup_visits-state table state key held is bytes =
     let rows : List Row = rows_of state in
     let path : List ℕ = nibbles key in
     let found : Option (List ℕ) = row_at rows path in
     let whole : subtree_at state [] ≡ tree_of rows = subtree_at-root state in
-    ap (λ s. visits_of table 1 (lookup_steps s [] path)) (is_seen ∙ ap shown whole)
+    ap (λ s. visits_of table 1 (lookup_steps s [] path)) (state_seen table state held is ∙ ap shown whole)
     ∙ ap (visits_of table 1) (lookup_steps-shown rows [] path (AreNibbles-nibbles key bytes))
     ∙ visits_of-nodes table (λ place. sha256 (text_at state place)) (filter (has_front path) (places (tree_of rows))) path found (row_at-all (HeldValue table) rows path (held_values table state held))
     ∙ ap₂ (λ tree (o : Option (List ℕ)). record {

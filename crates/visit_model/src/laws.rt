@@ -22,18 +22,23 @@ pub fn seen_by_text()
     ensures { (table : Table) (depth : ℕ) (after_extension : Bool) (digest : List ℕ) → depth ≤ longest_path → seen_at table depth after_extension digest ≡ seen_text (seen_at table) depth after_extension digest (get table digest) }
 {}
 
+/// Below the root of a state whose texts are all held, the state's trie is seen.
+pub fn seen_of_state()
+    ensures { (table : Table) (state : State) → Holds table state → IsState state → seen table (root state) ≡ shown (subtree_at state []) }
+{}
+
 /// Over the texts of a state, the lookup of a key visits each place on the key's path once, and then the value, if the state has the key. No test fails.
 pub fn lookup_over_state()
-    ensures digests { (table : Table) (state : State) (key : List ℕ) → Holds table state → IsState state → AreBytes key → seen table (root state) ≡ shown (subtree_at state []) → (lookup_visits table (root state) key).digests ≡ map (λ place. sha256 (text_at state place)) (filter (has_front (nibbles key)) (places_of state)) ++ at_most_one (option_map sha256 (get state key)) }
-    ensures values { (table : Table) (state : State) (key : List ℕ) → Holds table state → IsState state → AreBytes key → seen table (root state) ≡ shown (subtree_at state []) → (lookup_visits table (root state) key).values ≡ at_most_one (option_map (λ value. (nibbles key, value)) (get state key)) }
-    ensures refusal { (table : Table) (state : State) (key : List ℕ) → Holds table state → IsState state → AreBytes key → seen table (root state) ≡ shown (subtree_at state []) → (lookup_visits table (root state) key).refusal ≡ None }
+    ensures digests { (table : Table) (state : State) (key : List ℕ) → Holds table state → IsState state → AreBytes key → (lookup_visits table (root state) key).digests ≡ map (λ place. sha256 (text_at state place)) (filter (has_front (nibbles key)) (places_of state)) ++ at_most_one (option_map sha256 (get state key)) }
+    ensures values { (table : Table) (state : State) (key : List ℕ) → Holds table state → IsState state → AreBytes key → (lookup_visits table (root state) key).values ≡ at_most_one (option_map (λ value. (nibbles key, value)) (get state key)) }
+    ensures refusal { (table : Table) (state : State) (key : List ℕ) → Holds table state → IsState state → AreBytes key → (lookup_visits table (root state) key).refusal ≡ None }
 {}
 
 /// Over the texts of a state, a listing gives the first pairs whose keys are not below the key from which it starts. No test fails.
 pub fn listing_over_state()
-    ensures rows { (table : Table) (state : State) (from : List ℕ) (most : ℕ) → Holds table state → IsState state → seen table (root state) ≡ shown (subtree_at state []) → (listing_visits table (root state) from most).values ≡ take most (filter (λ row. reaches (nibbles from) row.0) (rows_of state)) }
-    ensures pairs { (table : Table) (state : State) (from : List ℕ) (most : ℕ) → Holds table state → IsState state → seen table (root state) ≡ shown (subtree_at state []) → (listing_visits table (root state) from most).values ≡ map (λ pair. (nibbles pair.0, pair.1)) (take most (filter (λ pair. reaches from pair.0) (entries state))) }
-    ensures refusal { (table : Table) (state : State) (from : List ℕ) (most : ℕ) → Holds table state → IsState state → seen table (root state) ≡ shown (subtree_at state []) → (listing_visits table (root state) from most).refusal ≡ None }
+    ensures rows { (table : Table) (state : State) (from : List ℕ) (most : ℕ) → Holds table state → IsState state → (listing_visits table (root state) from most).values ≡ take most (filter (λ row. reaches (nibbles from) row.0) (rows_of state)) }
+    ensures pairs { (table : Table) (state : State) (from : List ℕ) (most : ℕ) → Holds table state → IsState state → (listing_visits table (root state) from most).values ≡ map (λ pair. (nibbles pair.0, pair.1)) (take most (filter (λ pair. reaches from pair.0) (entries state))) }
+    ensures refusal { (table : Table) (state : State) (from : List ℕ) (most : ℕ) → Holds table state → IsState state → (listing_visits table (root state) from most).refusal ≡ None }
 {}
 
 /// Over any texts, the rows of a listing rise by path, there are at most so many as were asked for, and each keeps to the limits.
@@ -63,5 +68,5 @@ pub fn rising_rows_are_put_at_the_end()
 /// The visit of the root of a state is that of one text, and of none where the state is empty.
 pub fn top_over_state()
     ensures empty { (table : Table) → top_visits table (root empty) ≡ no_visits }
-    ensures some { (table : Table) (state : State) → Holds table state → state ≢ empty → seen table (root state) ≡ shown (subtree_at state []) → top_visits table (root state) ≡ node_first (root state) no_visits }
+    ensures some { (table : Table) (state : State) → Holds table state → IsState state → state ≢ empty → top_visits table (root state) ≡ node_first (root state) no_visits }
 {}

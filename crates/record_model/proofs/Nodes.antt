@@ -1,0 +1,183 @@
+-- The layout, the path and the shape of a record together: what is read is spelled so, and what is spelled so is read.
+use Rattle.std.proofs.Common.{◌≡◌, ℕ, ◌^◌, ◌<◌, ◌==◌, Bool, true, false, List, [], ◌∷◌, ◌++◌, length, None, Some, Result, Ok, Err, IfOk, IsOkAnd, refl, sym, ◌∙◌, ap, subst, arith, append-nil}
+use Rattle.std.proofs.lemmas.Bool.{leb-true, le-leb, eqb-true, eqb-false, ne_eqb, and_parts, and_from, not-true, not_from_false}
+use Rattle.std.proofs.lemmas.List.{nil_from_length, append_cancel_right}
+use Rattle.byte_model.specs.Nibbles.{AreBytes, AreNibbles}
+use Rattle.byte_model.specs.PackedPath.{packed}
+use Rattle.byte_model.specs.Borsh.{borsh_u64}
+use Rattle.byte_model.specs.Node as node
+use Rattle.byte_model.specs.Node.{Node, spelled, spelled_value, kid_count, longest_value, IsShaped}
+use Rattle.byte_model.specs.Laws.{FitsRecord, SameNode}
+use Rattle.byte_model.proofs.Spellings.{spelled-same}
+use Rattle.record_model.specs.Fields.{FrameFault, Cursor, start_of, end_of}
+use Rattle.record_model.specs.Paths.{PathFault, path_in}
+use Rattle.record_model.specs.Records.{Layout, leaf, branch, extension, layout_at, layout_of, kid_in, has_shape, shaped, suited, node_in, record_in, HasShortPath, IsRecord}
+use Rattle.record_model.proofs.Steps.{Gives, gives, and_then, by_test}
+use Rattle.record_model.proofs.PackedPaths.{path_in-found, path_in-only}
+use Rattle.record_model.proofs.Layouts.{spelled_layout, FitsLayout, HasPathBytes, layout_taken, layout_again}
+use Rattle.record_model.proofs.Kids.{bitmap_of, digests_of, bitmap_of-fits, kid_in-digest, kid_in-again, spelled_kids-kid_in, kid_count-same}
+
+-- ---- the layout of all the bytes
+
+record IsLayout (bytes : List ℕ) (read : Layout × ℕ) : Type 0 where
+  pub spelling : bytes ≡ spelled_layout read.0 read.1
+  pub fits : FitsLayout read.0
+  pub path : HasPathBytes read.0
+  pub usage_fits : read.1 < 2 ^ 64
+
+layout_found : (bytes : List ℕ) → AreBytes bytes → Gives (layout_of bytes) (IsLayout bytes)
+unfolding layout_of end_of
+layout_found bytes small = and_then (layout_taken (start_of bytes) small) (λ layout h. by_test (length layout.1.left == 0)
+    (λ e. gives _ (record {
+      spelling = h.took.parts ∙ ap (λ (rest : List ℕ). spelled_layout layout.0.0 layout.0.1 ++ rest) (nil_from_length layout.1.left (eqb-true _ _ e)) ∙ append-nil (spelled_layout layout.0.0 layout.0.1);
+      fits = h.fits;
+      path = h.path;
+      usage_fits = h.usage_fits;
+    }))
+    (λ _. record { given = tt }))
+
+layout_only : (layout : Layout) (usage : ℕ) → FitsLayout layout → usage < 2 ^ 64 → layout_of (spelled_layout layout usage) ≡ Ok (layout, usage)
+unfolding layout_of end_of
+layout_only layout usage fits lt =
+    let again = layout_again layout usage 0 [] fits lt in
+    let all = ap (λ (bytes : List ℕ). layout_at (start_of bytes)) (sym (append-nil (spelled_layout layout usage))) ∙ again.1 in
+    rw all refl
+
+-- ---- paths and shapes
+
+abbrev IsPathOf : Bool → List ℕ → List ℕ → Type 0
+IsPathOf flag bytes path = AreNibbles path × (bytes ≡ packed flag path)
+
+suited_found : (flag : Bool) (bytes : List ℕ) → AreBytes bytes → Gives (suited flag bytes) (IsPathOf flag bytes)
+unfolding suited
+suited_found flag bytes small = go flag (path_in bytes) refl (path_in-found bytes small)
+  where
+    go : (flag : Bool) (read : Result (List ℕ × Bool) PathFault) → path_in bytes ≡ read → IfOk read (λ path. AreNibbles path.0 × (bytes ≡ packed path.1 path.0)) → Gives (suited flag bytes) (IsPathOf flag bytes)
+    go flag (Err fault) e h = rw e (record { given = tt })
+    go true (Ok (path, true)) e h = rw e (gives path h)
+    go true (Ok (path, false)) e h = rw e (record { given = tt })
+    go false (Ok (path, true)) e h = rw e (record { given = tt })
+    go false (Ok (path, false)) e h = rw e (gives path h)
+
+suited_only : (flag : Bool) (path : List ℕ) → AreNibbles path → suited flag (packed flag path) ≡ Ok path
+unfolding suited
+suited_only true path small = rw (path_in-only true path small) refl
+suited_only false path small = rw (path_in-only false path small) refl
+
+shape_found : (n : Node) → has_shape n ≡ true → IsShaped n
+shape_found (node.leaf path value) e = leb-true _ _ e
+shape_found (node.branch None kids) e = leb-true _ _ e
+shape_found (node.branch (Some value) kids) e = let both = and_parts _ _ e in (leb-true _ _ both.0, leb-true _ _ both.1)
+shape_found (node.extension path child) e = λ empty. eqb-false (length path) 0 (not-true _ e) (ap length empty)
+
+shape_only : (n : Node) → IsShaped n → has_shape n ≡ true
+shape_only (node.leaf path value) h = le-leb _ _ h
+shape_only (node.branch None kids) h = le-leb _ _ h
+shape_only (node.branch (Some value) kids) h = and_from _ _ (le-leb _ _ h.0) (le-leb _ _ h.1)
+shape_only (node.extension path child) h = not_from_false _ (ne_eqb (length path) 0 (λ e. h (nil_from_length path e)))
+
+-- ---- the node of a layout
+
+record IsNodeOf (layout : Layout) (n : Node) : Type 0 where
+  pub spelling : (usage : ℕ) → spelled_layout layout usage ≡ spelled n usage
+  pub fields : FitsRecord n
+  pub path : HasShortPath n
+  pub shape : IsShaped n
+
+shaped_found : (layout : Layout) (n : Node) → ((usage : ℕ) → spelled_layout layout usage ≡ spelled n usage) → FitsRecord n → HasShortPath n → Gives (shaped n) (IsNodeOf layout)
+unfolding shaped
+shaped_found layout n spelling fields path = by_test (has_shape n) (λ e. gives _ (record { spelling = spelling; fields = fields; path = path; shape = shape_found n e })) (λ _. record { given = tt })
+
+node_found : (layout : Layout) → FitsLayout layout → HasPathBytes layout → Gives (node_in layout) (IsNodeOf layout)
+unfolding node_in spelled
+node_found (leaf bytes value) fits small = and_then (suited_found true bytes small) (λ path h.
+    shaped_found (leaf bytes value) (node.leaf path value)
+    (λ usage. ap (λ bytes. spelled_layout (leaf bytes value) usage) h.1)
+    (h.0, fits.1)
+    (subst (λ bytes. length bytes < 2 ^ 32) h.1 fits.0))
+node_found (branch None bitmap digests) fits small =
+    shaped_found (branch None bitmap digests) (node.branch None (kid_in bitmap digests))
+    (λ usage. ap (λ (kids : List ℕ). 1 ∷ (kids ++ borsh_u64 usage)) (sym (spelled_kids-kid_in bitmap digests fits.1)))
+    (tt, kid_in-digest bitmap digests fits.1)
+    tt
+node_found (branch (Some value) bitmap digests) fits small =
+    shaped_found (branch (Some value) bitmap digests) (node.branch (Some value) (kid_in bitmap digests))
+    (λ usage. ap (λ (kids : List ℕ). 2 ∷ ((spelled_value value ++ kids) ++ borsh_u64 usage)) (sym (spelled_kids-kid_in bitmap digests fits.1)))
+    (fits.0, kid_in-digest bitmap digests fits.1)
+    tt
+node_found (extension bytes child) fits small = and_then (suited_found false bytes small) (λ path h.
+    shaped_found (extension bytes child) (node.extension path child)
+    (λ usage. ap (λ bytes. spelled_layout (extension bytes child) usage) h.1)
+    (h.0, fits.1)
+    (subst (λ bytes. length bytes < 2 ^ 32) h.1 fits.0))
+
+abbrev layout_from : Node → Layout
+layout_from (node.leaf path value) = leaf (packed true path) value
+layout_from (node.branch value kids) = branch value (bitmap_of kids) (digests_of kids)
+layout_from (node.extension path child) = extension (packed false path) child
+
+layout_from-fits : (n : Node) → FitsRecord n → HasShortPath n → FitsLayout (layout_from n)
+layout_from-fits (node.leaf path value) fields short = (short, fields.1)
+layout_from-fits (node.branch value kids) fields short = (fields.0, bitmap_of-fits kids fields.1)
+layout_from-fits (node.extension path child) fields short = (short, fields.1)
+
+spelled_layout-from : (n : Node) (usage : ℕ) → spelled n usage ≡ spelled_layout (layout_from n) usage
+unfolding spelled node.spelled_kids
+spelled_layout-from (node.leaf path value) usage = refl
+spelled_layout-from (node.branch None kids) usage = refl
+spelled_layout-from (node.branch (Some value) kids) usage = refl
+spelled_layout-from (node.extension path child) usage = refl
+
+node_only : (n : Node) → FitsRecord n → IsShaped n → (m : Node) × (node_in (layout_from n) ≡ Ok m) × SameNode m n
+unfolding node_in shaped
+node_only (node.leaf path value) fields shape =
+    (node.leaf path value, rw (suited_only true path fields.0, shape_only (node.leaf path value) shape) refl, (refl, refl))
+node_only (node.branch None kids) fields shape =
+    let same = kid_in-again kids fields.1 in
+    let many = kid_count-same (kid_in (bitmap_of kids) (digests_of kids)) kids same in
+    let shape : has_shape (node.branch None (kid_in (bitmap_of kids) (digests_of kids))) ≡ true = shape_only (node.branch None (kid_in (bitmap_of kids) (digests_of kids))) (omega (arith, many, shape)) in
+    (node.branch None (kid_in (bitmap_of kids) (digests_of kids)), rw shape refl, (refl, same))
+node_only (node.branch (Some value) kids) fields shape =
+    let same = kid_in-again kids fields.1 in
+    let many = kid_count-same (kid_in (bitmap_of kids) (digests_of kids)) kids same in
+    let shape : has_shape (node.branch (Some value) (kid_in (bitmap_of kids) (digests_of kids))) ≡ true = shape_only (node.branch (Some value) (kid_in (bitmap_of kids) (digests_of kids))) (shape.0, omega (arith, many, shape.1)) in
+    (node.branch (Some value) (kid_in (bitmap_of kids) (digests_of kids)), rw shape refl, (refl, same))
+node_only (node.extension path child) fields shape =
+    (node.extension path child, rw (suited_only false path fields.0, shape_only (node.extension path child) shape) refl, (refl, refl))
+
+-- ---- records
+
+pub record_in-found : (bytes : List ℕ) → AreBytes bytes → Gives (record_in bytes) (λ r. IsRecord r.0 r.1 bytes)
+unfolding record_in
+record_in-found bytes small = go (layout_of bytes) refl (layout_found bytes small)
+  where
+    go : (read : Result (Layout × ℕ) FrameFault) → layout_of bytes ≡ read → Gives read (IsLayout bytes) → Gives (record_in bytes) (λ r. IsRecord r.0 r.1 bytes)
+    go (Err fault) e h = rw e (record { given = tt })
+    go (Ok layout) e h = let layout_is = h.given in rw e (and_then (node_found layout.0 layout_is.fits layout_is.path) (λ n k. gives _ (record {
+      spelling = layout_is.spelling ∙ k.spelling layout.1;
+      fields = k.fields;
+      path = k.path;
+      usage_fits = layout_is.usage_fits;
+      shape = k.shape;
+    })))
+
+pub record_in-only : (n : Node) (usage : ℕ) (bytes : List ℕ) → IsRecord n usage bytes → IsOkAnd (record_in bytes) (λ r. SameNode r.0 n × (r.1 ≡ usage))
+unfolding record_in
+record_in-only n usage bytes h =
+    let layout : layout_of bytes ≡ Ok (layout_from n, usage) = ap layout_of (h.spelling ∙ spelled_layout-from n usage) ∙ layout_only (layout_from n) usage (layout_from-fits n h.fields h.path) h.usage_fits in
+    let read = node_only n h.fields h.shape in
+    rw (layout, read.1) (read.2, refl)
+
+-- the bytes behind a layout
+abbrev left_behind : Result ((Layout × ℕ) × Cursor) FrameFault → List ℕ
+left_behind (Ok read) = read.1.left
+left_behind (Err e) = []
+
+pub record-not_front : (m n : Node) (usage other : ℕ) (one two more rest : List ℕ) → IsRecord m usage one → IsRecord n other two → one ++ more ≡ two ++ rest → SameNode m n × (usage ≡ other) × (one ≡ two)
+record-not_front m n usage other one two more rest h k e =
+    let read : (n : Node) (usage : ℕ) (bytes rest : List ℕ) → IsRecord n usage bytes → left_behind (layout_at (start_of (bytes ++ rest))) ≡ rest = λ n usage bytes rest h.
+    ap (λ (bytes : List ℕ). left_behind (layout_at (start_of (bytes ++ rest)))) (h.spelling ∙ spelled_layout-from n usage) ∙ ap left_behind (layout_again (layout_from n) usage 0 rest (layout_from-fits n h.fields h.path) h.usage_fits).1 in
+    let same_rest : more ≡ rest = sym (read m usage one more h) ∙ ap (λ (bytes : List ℕ). left_behind (layout_at (start_of bytes))) e ∙ read n other two rest k in
+    let same : one ≡ two = append_cancel_right one two more (e ∙ ap (λ (r : List ℕ). two ++ r) (sym same_rest)) in
+    let both = spelled-same m n usage other h.fields k.fields h.usage_fits k.usage_fits (sym h.spelling ∙ same ∙ k.spelling) in
+    (both.0, both.1, same)
