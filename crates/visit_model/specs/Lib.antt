@@ -2,3 +2,5 @@ pub mod Seen
 pub mod Steps
 pub mod Visits
 pub mod Shown
+pub mod Bounds
+pub mod Keys
