@@ -1,0 +1,11 @@
+//! Texts by digest: stores that answer the text of a digest, and stores that count how often each
+//! text is wanted and forget it with its last use.
+#![tactic(auto)]
+
+mod errors;
+mod nodes;
+mod texts;
+
+pub use errors::{AddError, ReserveError};
+pub use nodes::Nodes;
+pub use texts::Texts;
