@@ -5,6 +5,7 @@
 mod errors;
 mod nodes;
 mod texts;
+mod walking;
 
 pub use errors::{AddError, ReserveError};
 pub use nodes::Nodes;
