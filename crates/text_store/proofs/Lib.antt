@@ -1,1 +1,5 @@
 pub mod Walked
+pub mod Keyed
+pub mod Stored
+pub mod Tables
+pub mod StockLemmas

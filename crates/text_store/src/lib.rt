@@ -3,10 +3,14 @@
 #![tactic(auto)]
 
 mod errors;
+mod failures;
+mod held;
+mod mem_nodes;
 mod nodes;
 mod texts;
 mod walking;
 
 pub use errors::{AddError, ReserveError};
+pub use mem_nodes::MemNodes;
 pub use nodes::Nodes;
 pub use texts::Texts;

@@ -24,10 +24,13 @@ pub trait Texts {
     /// The two states of the object hold the same texts, and whatever else it says of itself.
     ghost alike: { Self → Self → Type 0 };
 
+    /// What a load leaves of the object, where it says more than each must.
+    ghost load_leaves: { Self → Self → Type 0 } = { λ _ _. ⊤ };
+
     /// The text of a digest, where one is held.
     fn load(&mut self, d: &Digest) -> Result<Option<&[u8]>, Fault>
         ensures* after { sem 𝓛 (follows_so Self.row Self.row self.entry.ghost_name NO_NAME (λ _ _. ⊤)
-            (λ new. alike self.old new × Loaded (load_count self.old) (load_count new) (faults self.old) (faults new) (kept self.old) (kept new) d.now.0 result)) }
+            (λ new. alike self.old new × Loaded (load_count self.old) (load_count new) (faults self.old) (faults new) (kept self.old) (kept new) d.now.0 result × load_leaves self.old new)) }
         ensures value { IfOk result (λ found. option_copied found ≡ get (texts self.old) d.now.0) }
         ensures named { IsNamed (texts self.old) };
 
