@@ -3,3 +3,4 @@ pub mod Keyed
 pub mod Stored
 pub mod Tables
 pub mod StockLemmas
+pub mod Changes

@@ -1,12 +1,13 @@
 -- The entries of the hash table against the maps that they are seen as.
-use Rattle.std.proofs.Common.{◌≡◌, ℕ, Bool, true, false, cond, List, [], ◌∷◌, map, Option, None, Some, refl, sym, ap, ◌∙◌}
+use Rattle.std.proofs.Common.{◌≡◌, ℕ, ◌+◌, Bool, true, false, cond, List, [], ◌∷◌, map, length, Option, None, Some, is_some, refl, sym, ap, ◌∙◌, arith}
 use Rattle.std.specs.Prelude.{nat_eq}
 use Rattle.std.specs.Option.{option_map}
-use Rattle.std.specs.Map.{lookup}
+use Rattle.std.specs.Map.{lookup, keys_of}
+use Rattle.std.specs.List.{AllByRecursion, IsDistinct}
 use Rattle.std.specs.Cmp.{eq_by_cmp_equiv}
 use Rattle.std.proofs.lemmas.Map.Lookups.{exact_bytes}
 use Rattle.std.specs.Cmp.Lexicographic.{pointwise, texts_ties, nat_list_cmp_total}
-use Rattle.std.specs.FinMap.{FinMap, get, find, from_entries, insert, remove, same_map, get-from_entries, get-insert, get-remove}
+use Rattle.std.specs.FinMap.{FinMap, get, find, from_entries, insert, remove, len, contains_key, same_map, get-from_entries, get-insert, get-remove, len-empty, len-insert}
 use Rattle.base_core.specs.declared.hash.Digest.{Digest}
 use Rattle.text_store.specs.declared.held.Held.{Held}
 use Rattle.text_store.proofs.Keyed.{order, is_same}
@@ -60,3 +61,17 @@ module _ {X : Type 0} (f : Held → X) where
 -- the table without entries
 pub found-none : (es : Entries) → es ≡ [] → (q : List ℕ) → found es q ≡ None
 found-none es e q = ap (λ xs. found xs q) e
+
+-- ---- how many there are
+
+-- no key that is told apart from all is found
+found-apart : (es : Entries) (k : Digest) → AllByRecursion (λ (y : Digest). pointwise nat_eq k.0 y.0 ≡ false) (keys_of es) → found es k.0 ≡ None
+found-apart [] k h = refl
+found-apart (e ∷ es) k h = ap (λ b. cond b (Some e.1) (found es k.0)) h.0 ∙ found-apart es k h.1
+
+pub len-seen : {X : Type 0} (f : Held → X) (es : Entries) → IsDistinct (λ (a b : Digest). pointwise nat_eq a.0 b.0) (keys_of es) → len (seen f es) ≡ length es
+unfolding IsDistinct
+len-seen f [] h = len-empty order _
+len-seen f (e ∷ es) h =
+    let new : contains_key (seen f es) e.0.0 ≡ false = ap is_some (get-seen f es e.0.0 ∙ ap (option_map f) (found-apart es e.0 h.0)) in
+    len-insert nat_list_cmp_total (seen f es) e.0.0 (f e.1) ∙ ap (λ b. cond b (len (seen f es)) (len (seen f es) + 1)) new ∙ ap (λ n. n + 1) (len-seen f es h.1) ∙ omega arith

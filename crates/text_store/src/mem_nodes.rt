@@ -108,3 +108,111 @@ impl Texts for MemNodes {
         self.loads
     }
 }
+
+impl Nodes for MemNodes {
+    ghost use Rattle.std.specs.Prelude.{unwrap_or};
+    ghost use Rattle.std.proofs.Common.{ap};
+
+    ghost count_of = { count_in };
+
+    ghost spare = { λ store. store.spare };
+
+    ghost alike_counts = { λ a b alike digest. ap (λ counts. unwrap_or (get counts digest) 0) alike.1 };
+
+    fn reserve(&mut self, n: u64) -> Result<(), ReserveError>
+        ensures room { OnOk result (n ≤ self.new.spare) }
+        ensures unchanged { IsUnchanged self.old.texts self.new.texts (count_in self.old) (count_in self.new) }
+        ensures stored { IsStored self.old.texts (count_in self.old) }
+        ensures loads { self.new.loads ≡ self.old.loads }
+        ensures no_fall { self.old.failing.faults ≤ self.new.failing.faults }
+        ensures rose { result ≡ Err ReserveError.Fault → Rose self.old.failing.faults self.new.failing.faults }
+        ensures fails { (result ≡ Err ReserveError.Fault) ↔ IsTrue (fails_next self.old.failing) }
+        ensures after { self.new.failing ≡ after_call self.old.failing }
+    {
+        if let Err(Fault) = self.failing.call() {
+            return Err(ReserveError::Fault);
+        }
+        match self.held.reserve(n as usize) {
+            Ok(()) => Ok(()),
+            Err(_) => Err(ReserveError::NoMemory),
+        }
+    }
+
+    fn add(&mut self, d: &Digest, text: Text, times: u64) -> Result<(), AddError>
+        requires digest { d.now.0 ≡ sha256 text }
+        requires room { 1 ≤ self.old.spare }
+        requires times { IfNone (get self.old.texts d.now.0) (1 ≤ times) }
+        requires fits { count_in self.old d.now.0 + times < 2 ^ 64 }
+        ensures ok { OnOk result (Adds self.old.texts self.new.texts (count_in self.old) (count_in self.new) d.now.0 text times) }
+        ensures err { OnErr result (IsUnchanged self.old.texts self.new.texts (count_in self.old) (count_in self.new)) }
+        ensures answer { AnswersAdd self.old.texts d.now text self.old.failing.faults self.new.failing.faults result }
+        ensures room { self.old.spare ≤ self.new.spare + 1 }
+        ensures stored { IsStored self.old.texts (count_in self.old) }
+        ensures loads { self.new.loads ≡ self.old.loads }
+        ensures no_fall { self.old.failing.faults ≤ self.new.failing.faults }
+        ensures fails { (result ≡ Err AddError.Fault) ↔ IsTrue (fails_next self.old.failing) }
+        ensures after { self.new.failing ≡ after_call self.old.failing }
+    {
+        if let Err(Fault) = self.failing.call() {
+            return Err(AddError::Fault);
+        }
+        if *d == Digest::ZERO {
+            return Err(AddError::Clash { digest: *d });
+        }
+        match self.held.get_mut(d) {
+            Some(held) => {
+                if held.text.as_slice() != text.as_slice() {
+                    return Err(AddError::Clash { digest: *d });
+                }
+                held.count += times;
+                Ok(())
+            }
+            None => match self.held.insert(*d, Held { text, count: times }) {
+                Ok(_) => Ok(()),
+                // There is room.
+                Err(_) => unreachable!(),
+            },
+        }
+    }
+
+    fn release(&mut self, d: &Digest, times: u64) -> Result<(), Fault>
+        requires { times ≤ count_in self.old d.now.0 }
+        ensures ok { OnOk result (Releases self.old.texts self.new.texts (count_in self.old) (count_in self.new) d.now.0 times) }
+        ensures err { OnErr result (IsUnchanged self.old.texts self.new.texts (count_in self.old) (count_in self.new)) }
+        ensures stored { IsStored self.old.texts (count_in self.old) }
+        ensures loads { self.new.loads ≡ self.old.loads }
+        ensures counted { IsCounted self.old.failing.faults self.new.failing.faults result }
+        ensures fails { IsErr result ↔ IsTrue (fails_next self.old.failing) }
+        ensures after { self.new.failing ≡ after_call self.old.failing }
+    {
+        self.failing.call()?;
+        let left = match self.held.get_mut(d) {
+            Some(held) => {
+                held.count -= times;
+                held.count
+            }
+            None => return Ok(()),
+        };
+        if left == 0 {
+            self.held.remove(d);
+        }
+        Ok(())
+    }
+
+    fn distinct(&self) -> u64
+        ensures distinct { result ≡ len self.now.texts }
+        ensures stored { IsStored self.now.texts (count_in self.now) }
+    {
+        self.held.len() as u64
+    }
+
+    fn count(&self, d: &Digest) -> u64
+        ensures count { result ≡ count_in self.now d.now.0 }
+        ensures stored { IsStored self.now.texts (count_in self.now) }
+    {
+        match self.held.get(d) {
+            Some(held) => held.count,
+            None => 0,
+        }
+    }
+}
