@@ -1,0 +1,6 @@
+pub mod Walked
+pub mod Keyed
+pub mod Stored
+pub mod Tables
+pub mod StockLemmas
+pub mod Changes

@@ -1,0 +1,4 @@
+pub mod Loading
+pub mod Counting
+pub mod Failing
+pub mod Memory

@@ -1,0 +1,40 @@
+-- What a store of texts holds, and what a load says and leaves.
+use Rattle.std.specs.Prelude.{◌≡◌, ℕ, ◌+◌, min, max, List, Option, None, Some, IfSome, IsSomeAnd, Result, Ok, Err}
+use Rattle.std.specs.Borrow.{GName}
+use Rattle.std.specs.Ordering.{nat_cmp}
+use Rattle.std.specs.Cmp.Lexicographic.{slice_cmp}
+use Rattle.std.specs.FinMap.{get}
+use Rattle.std.specs.FinSet.{FinSet, insert}
+use Rattle.sha2.specs.Sha256.{sha256}
+use Rattle.trie_model.specs.Root.{Table, zero_digest}
+use Rattle.base_core.specs.Faults.{most_faults, IsCounted}
+use mathlib.Core.Option as maybe
+
+-- no reference, for a result from which nothing is written
+abbrev pub NO_NAME : maybe.Option GName
+NO_NAME = maybe.none
+
+-- a set of digests
+abbrev pub Digests : Type 0
+Digests = FinSet (slice_cmp nat_cmp)
+
+-- Each text stands under its own SHA-256, and none under the zero digest.
+pub record IsNamed (texts : Table) : Type 0 where
+  pub own : (digest text : List ℕ) → get texts digest ≡ Some text → sha256 text ≡ digest
+  pub nonzero : get texts zero_digest ≡ None
+
+-- a count that is n higher, up to its end
+abbrev pub risen : ℕ → ℕ → ℕ
+risen count n = max count (min (count + n) most_faults)
+
+-- The digests kept as loaded: a load that answers a text adds its digest, and may stop telling them. Any other leaves them.
+abbrev pub Keeps : {A E : Type 0} → Option Digests → Option Digests → List ℕ → Result (Option A) E → Type 0
+Keeps before after digest (Ok (Some text)) = IfSome after (λ now. IsSomeAnd before (λ were. now ≡ insert were digest))
+Keeps before after digest (Ok None) = after ≡ before
+Keeps before after digest (Err fault) = after ≡ before
+
+-- What a load of a digest leaves of the counts and of the digests kept: it is counted, also where it answers a fault.
+pub record Loaded {A E : Type 0} (loads loads_after faults faults_after : ℕ) (kept kept_after : Option Digests) (digest : List ℕ) (result : Result (Option A) E) : Type 0 where
+  pub counted : loads_after ≡ risen loads 1
+  pub failed : IsCounted faults faults_after result
+  pub remembered : Keeps kept kept_after digest result

@@ -1,0 +1,48 @@
+ghost use Rattle.std.specs.Prelude.{◌≡◌, IfOk, IsErr, IsTrue, ◌↔◌};
+ghost use Rattle.text_store.specs.Failing.{fails_next, after_call};
+
+use base_core::Fault;
+use std::alloc::{AllocError, Global};
+use std::marker::Model;
+
+/// Which calls of an object in memory fail. Calls are numbered from 1.
+#[derive(Debug, Drop)]
+pub(crate) struct Failures {
+    fails: Vec<u64>,
+    calls: u64,
+    faults: u64,
+}
+
+impl Model for Failures {
+    ghost use Rattle.text_store.specs.Failing.{Failing};
+
+    ghost Value = { Failing };
+
+    ghost view = { λ f. record { fails = f.fails.items; calls = f.calls; faults = f.faults } };
+}
+
+impl Failures {
+    /// No call yet. Those whose numbers are in `fails` will fail.
+    pub(crate) fn new(alloc: Global, fails: &[u64]) -> Result<Failures, AllocError>
+        ensures { IfOk result (λ f. f ≡ record { fails = fails.now; calls = 0; faults = 0 }) }
+    {
+        Ok(Failures {
+            fails: Vec::from_slice(alloc, fails)?,
+            calls: 0,
+            faults: 0,
+        })
+    }
+
+    /// Numbers a call, and fails where its number is on the list.
+    pub(crate) fn call(&mut self) -> Result<(), Fault>
+        ensures fails { IsErr result ↔ IsTrue (fails_next self.old) }
+        ensures after { self.new ≡ after_call self.old }
+    {
+        self.calls = self.calls.saturating_add(1);
+        if self.fails.contains(&self.calls) {
+            self.faults = self.faults.saturating_add(1);
+            return Err(Fault);
+        }
+        Ok(())
+    }
+}

@@ -1,0 +1,65 @@
+ghost use Rattle.std.specs.Prelude.{◌≡◌, ℕ, ◌+◌, ◌^◌, ◌<◌, ◌≤◌, List, OnOk, OnErr, Err, IfNone};
+ghost use Rattle.std.specs.FinMap.{get, len};
+ghost use Rattle.sha2.specs.Sha256.{sha256};
+ghost use Rattle.base_core.specs.Faults.{Rose, IsCounted};
+ghost use Rattle.text_store.specs.Counting.{IsStored, IsUnchanged, Adds, Releases, AnswersAdd};
+
+use crate::errors::{AddError, ReserveError};
+use crate::texts::Texts;
+use base_core::{Digest, Fault, Text};
+
+/// Texts with counts: a text is held as long as its count is at least 1. A call that answers an
+/// error changes no text and no count, and no call here counts as a load.
+pub trait Nodes: Texts {
+    /// The count of the text held under a digest, 0 where none is held.
+    ghost count_of: { Self → List ℕ → ℕ };
+
+    /// How many texts can be added without memory.
+    ghost spare: { Self → ℕ };
+
+    /// Takes room for `n` further texts.
+    fn reserve(&mut self, n: u64) -> Result<(), ReserveError>
+        ensures room { OnOk result (n ≤ spare self.new) }
+        ensures unchanged { IsUnchanged (Self.texts self.old) (Self.texts self.new) (count_of self.old) (count_of self.new) }
+        ensures stored { IsStored (Self.texts self.old) (count_of self.old) }
+        ensures loads { Self.load_count self.new ≡ Self.load_count self.old }
+        ensures no_fall { Self.faults self.old ≤ Self.faults self.new }
+        ensures rose { result ≡ Err ReserveError.Fault → Rose (Self.faults self.old) (Self.faults self.new) };
+
+    /// Raises the count of a text by `times`. With 0 it only compares the text with the one that is
+    /// held. It takes no memory.
+    fn add(&mut self, d: &Digest, text: Text, times: u64) -> Result<(), AddError>
+        requires digest { d.now.0 ≡ sha256 text }
+        requires room { 1 ≤ spare self.old }
+        requires times { IfNone (get (Self.texts self.old) d.now.0) (1 ≤ times) }
+        requires fits { count_of self.old d.now.0 + times < 2 ^ 64 }
+        ensures ok { OnOk result (Adds (Self.texts self.old) (Self.texts self.new) (count_of self.old) (count_of self.new) d.now.0 text times) }
+        ensures err { OnErr result (IsUnchanged (Self.texts self.old) (Self.texts self.new) (count_of self.old) (count_of self.new)) }
+        ensures answer { AnswersAdd (Self.texts self.old) d.now text (Self.faults self.old) (Self.faults self.new) result }
+        ensures room { spare self.old ≤ spare self.new + 1 }
+        ensures stored { IsStored (Self.texts self.old) (count_of self.old) }
+        ensures loads { Self.load_count self.new ≡ Self.load_count self.old }
+        ensures no_fall { Self.faults self.old ≤ Self.faults self.new };
+
+    /// Lowers the count of a text by `times`. At 0 the text is gone. It takes no memory.
+    fn release(&mut self, d: &Digest, times: u64) -> Result<(), Fault>
+        requires { times ≤ count_of self.old d.now.0 }
+        ensures ok { OnOk result (Releases (Self.texts self.old) (Self.texts self.new) (count_of self.old) (count_of self.new) d.now.0 times) }
+        ensures err { OnErr result (IsUnchanged (Self.texts self.old) (Self.texts self.new) (count_of self.old) (count_of self.new)) }
+        ensures stored { IsStored (Self.texts self.old) (count_of self.old) }
+        ensures loads { Self.load_count self.new ≡ Self.load_count self.old }
+        ensures counted { IsCounted (Self.faults self.old) (Self.faults self.new) result };
+
+    /// How many texts are held. It takes no memory.
+    fn distinct(&self) -> u64
+        ensures distinct { result ≡ len (Self.texts self.now) }
+        ensures stored { IsStored (Self.texts self.now) (count_of self.now) };
+
+    /// The count of the text held under a digest, 0 where none is held. It takes no memory.
+    fn count(&self, d: &Digest) -> u64
+        ensures count { result ≡ count_of self.now d.now.0 }
+        ensures stored { IsStored (Self.texts self.now) (count_of self.now) };
+
+    /// Alike states have the same counts.
+    ghost alike_counts: { (a b : Self) → Self.alike a b → (digest : List ℕ) → count_of a digest ≡ count_of b digest };
+}
