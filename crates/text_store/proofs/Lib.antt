@@ -4,3 +4,4 @@ pub mod Stored
 pub mod Tables
 pub mod StockLemmas
 pub mod Changes
+pub mod Visiting

@@ -2,3 +2,4 @@ pub mod Loading
 pub mod Counting
 pub mod Failing
 pub mod Memory
+pub mod Visiting

@@ -55,3 +55,12 @@ seen_at table depth after_extension digest = seen_within (suc longest_path - dep
 -- of a root: the zero digest is the root of no pairs
 unfoldable pub seen : Table → List ℕ → Seen
 seen table root = if pointwise nat_eq root zero_digest then nothing else seen_at table 0 false root
+
+-- the usage that the record of a root states, and 0 where there is no root
+unfoldable pub stated_usage : Seen → ℕ
+stated_usage nothing = 0
+stated_usage (missing digest) = 0
+stated_usage (bad digest) = 0
+stated_usage (leaf digest usage path value) = usage
+stated_usage (branch digest usage value kids) = usage
+stated_usage (extension digest usage path child) = usage

@@ -1,0 +1,39 @@
+-- One load after others.
+use Rattle.std.proofs.Common.{◌≡◌, ℕ, ◌+◌, ◌≤◌, List, [], ◌∷◌, ◌++◌, length, Option, None, Some, Result, Ok, Err, refl, sym, ap, ◌∙◌, subst, arith, length-append}
+use Rattle.std.specs.Prelude.{IfSome, IsSomeAnd, min, max}
+use Rattle.std.specs.FinSet.{insert}
+use Rattle.base_core.specs.Faults.{IsCounted}
+use Rattle.text_store.specs.Loading.{Digests, risen, Keeps, Loaded}
+use Rattle.text_store.specs.Visiting.{HasLoaded, with_all, Remembers}
+
+with_all-end : (kept : Digests) (digests : List (List ℕ)) (digest : List ℕ) → with_all kept (digests ++ digest ∷ []) ≡ insert (with_all kept digests) digest
+unfolding with_all
+with_all-end kept [] digest = refl
+with_all-end kept (first ∷ digests) digest = with_all-end (insert kept first) digests digest
+
+risen-more : (count n : ℕ) → risen (risen count n) 1 ≡ risen count (n + 1)
+risen-more count n = omega arith
+
+-- nothing was loaded
+pub HasLoaded-none : {S : Type 0} (alike : S → S → Type 0) (loads faults : S → ℕ) (old : S) → alike old old → HasLoaded alike loads faults old old 0
+HasLoaded-none alike loads faults old same = record { same = same; counted = omega arith; no_fall = omega arith }
+
+-- one more
+pub HasLoaded-more : {S : Type 0} (alike : S → S → Type 0) (loads faults : S → ℕ) (kept : S → Option Digests) {A E : Type 0} (old mid new : S) (count : ℕ) (digest : List ℕ) (result : Result (Option A) E) → ((a b c : S) → alike a b → alike b c → alike a c) → HasLoaded alike loads faults old mid count → alike mid new → Loaded (loads mid) (loads new) (faults mid) (faults new) (kept mid) (kept new) digest result → HasLoaded alike loads faults old new (count + 1)
+HasLoaded-more alike loads faults kept old mid new count digest result onward before same loaded = record {
+  same = onward old mid new before.same same;
+  counted = loaded.counted ∙ ap (λ n. risen n 1) before.counted ∙ risen-more (loads old) count;
+  no_fall = let rose = loaded.failed.no_fall in let fell = before.no_fall in omega arith;
+}
+
+-- the digests kept
+pub Remembers-none : (kept : Option Digests) → Remembers kept kept []
+unfolding with_all
+Remembers-none None = tt
+Remembers-none (Some were) = refl
+
+pub Remembers-more : (before mid after : Option Digests) (digests : List (List ℕ)) (digest : List ℕ) → Remembers before mid digests → IfSome after (λ now. IsSomeAnd mid (λ were. now ≡ insert were digest)) → Remembers before after (digests ++ digest ∷ [])
+Remembers-more before mid None digests digest first last = tt
+Remembers-more before None (Some now) digests digest first last = absurd last
+Remembers-more None (Some there) (Some now) digests digest first last = absurd first
+Remembers-more (Some were) (Some there) (Some now) digests digest first last = last ∙ ap (λ k. insert k digest) first ∙ sym (with_all-end were digests digest)

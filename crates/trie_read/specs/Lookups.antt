@@ -1,0 +1,67 @@
+-- One step of a lookup: where a node leads the nibbles that are left of a key.
+use Rattle.std.specs.Prelude.{◌≡◌, ℕ, ◌+◌, nat_eq, Bool, true, false, List, [], ◌∷◌, ◌++◌, length, map, Option, None, Some, is_some, Result, Ok, Err, if◌then◌else◌, ⊤}
+use Rattle.std.specs.Option.{option_map}
+use Rattle.std.specs.Cmp.Lexicographic.{pointwise}
+use Rattle.byte_model.specs.Node as node
+use Rattle.byte_model.specs.Node.{Node, ValueRef}
+use Rattle.record_model.specs.Records.{record_in}
+use Rattle.record_model.specs.Fits.{fits_at}
+use Rattle.trie_model.specs.Root.{Table}
+use Rattle.trie_model.specs.Tree.{rest_behind}
+use Rattle.visit_model.specs.Seen.{Seen, Looks, missing, bad, seen_node, seen_record}
+use Rattle.visit_model.specs.Seen as seen
+use Rattle.visit_model.specs.Steps.{Step, no_text, no_node, value}
+use Rattle.visit_model.specs.Steps as step
+use Rattle.node_codec.specs.Shown.{value_of}
+use Rattle.trie_read.specs.declared.errors.ReadError.{ReadError}
+use Rattle.trie_read.specs.declared.errors.ReadError.TheVariants.{Missing, Bad, Fault}
+use Rattle.trie_read.specs.declared.lookup.Next.{Next}
+use Rattle.trie_read.specs.declared.lookup.Next.TheVariants.{End, Child}
+
+-- the key ends, with a value or none, or it leads to a child
+pub data Leads : Type 0 where
+  ends : (value : Option ValueRef) → Leads
+  child : (digest : List ℕ) (depth : ℕ) (after_extension : Bool) → Leads
+
+abbrev pub leads_seen : Next → Leads
+leads_seen (End found) = ends (option_map value_of found)
+leads_seen (Child digest depth after_extension) = child digest.0 depth after_extension
+
+abbrev pub leads_to : ℕ → Bool → Option (List ℕ) → Leads
+leads_to depth after_extension None = ends None
+leads_to depth after_extension (Some digest) = child digest depth after_extension
+
+-- from a node at a depth, by what is left of the key
+unfoldable pub leads : ℕ → List ℕ → Node → Leads
+leads depth rest (node.leaf path ref) = ends (if pointwise nat_eq path rest then Some ref else None)
+leads depth [] (node.branch ref kids) = ends ref
+leads depth (x ∷ rest) (node.branch ref kids) = leads_to (depth + 1) false (kids x)
+leads depth rest (node.extension path digest) = if is_some (rest_behind path rest) then child digest (depth + length path) true else ends None
+
+-- what is seen at a place is a node that fits, and it leads there
+pub record IsNext (table : Table) (at : Seen) (digest : List ℕ) (depth : ℕ) (after_extension : Bool) (rest : List ℕ) (next : Next) : Type 0 where
+  pub node : Node
+  pub usage : ℕ
+  pub seen : at ≡ seen_node (seen.seen_at table) depth digest node usage
+  pub fits : fits_at depth after_extension node ≡ true
+  pub leads : leads_seen next ≡ leads depth rest node
+
+-- what visiting a place answers
+abbrev pub AnswersVisit : Table → Seen → List ℕ → ℕ → Bool → List ℕ → Result Next ReadError → Type 0
+AnswersVisit table at digest depth after_extension rest (Ok next) = IsNext table at digest depth after_extension rest next
+AnswersVisit table at digest depth after_extension rest (Err (Missing named)) = (named.0 ≡ digest) × (at ≡ missing digest)
+AnswersVisit table at digest depth after_extension rest (Err (Bad named)) = (named.0 ≡ digest) × (at ≡ bad digest)
+AnswersVisit table at digest depth after_extension rest (Err Fault) = ⊤
+
+-- it spells a node that fits, which leads there
+pub record Leading (depth : ℕ) (after_extension : Bool) (rest text : List ℕ) (next : Next) : Type 0 where
+  pub node : Node
+  pub usage : ℕ
+  pub read : record_in text ≡ Ok (node, usage)
+  pub fits : fits_at depth after_extension node ≡ true
+  pub leads : leads_seen next ≡ leads depth rest node
+
+-- what a text is found to be: no node that fits, or one that leads on
+abbrev pub IsText : ℕ → Bool → List ℕ → List ℕ → Option Next → Type 0
+IsText depth after_extension rest text None = (look : Looks) (digest : List ℕ) → seen_record look depth after_extension digest (record_in text) ≡ bad digest
+IsText depth after_extension rest text (Some next) = Leading depth after_extension rest text next

@@ -1,0 +1,9 @@
+//! Reading a trie by its root from any store of texts: the value of a key, the pairs from a key on,
+//! the usage of a root.
+#![tactic(auto)]
+
+mod errors;
+mod lookup;
+mod visit;
+
+pub use errors::{ListError, ReadError};
