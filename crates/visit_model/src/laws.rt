@@ -1,6 +1,6 @@
 //! Laws over the definitions, in other words than theirs. A law is proved where its function is: there is nothing to run.
 
-ghost use Rattle.std.specs.Prelude.{◌≡◌, ◌≢◌, ◌≤◌, ◌%◌, ◌^◌, ℕ, Bool, List, [], ◌∷◌, ◌++◌, length, map, filter, take, option_map, None};
+ghost use Rattle.std.specs.Prelude.{◌≡◌, ◌≢◌, ◌≤◌, ◌%◌, ◌^◌, ℕ, Bool, List, [], ◌∷◌, ◌++◌, length, map, filter, flat_map, take, option_map, None};
 ghost use Rattle.std.specs.List.{AllByRecursion};
 ghost use Rattle.std.specs.List.Sorted.{IsStrictlySortedBy};
 ghost use Rattle.std.specs.Ordering.{nat_cmp};
@@ -15,6 +15,8 @@ ghost use Rattle.visit_model.specs.Seen.{seen_at, seen_text, seen};
 ghost use Rattle.visit_model.specs.Shown.{shown};
 ghost use Rattle.visit_model.specs.Keys.{AreByteTexts, key_of};
 ghost use Rattle.visit_model.specs.Bounds.{has_front, reaches, at_most_one, IsListed};
+ghost use Rattle.visit_model.specs.Listed.{is_listed_place, place_steps};
+ghost use Rattle.visit_model.specs.Steps.{listing_steps};
 ghost use Rattle.visit_model.specs.Visits.{lookup_visits, listing_visits, top_visits, no_visits, node_first};
 
 /// The bound on the depth never shows.
@@ -39,6 +41,11 @@ pub fn listing_over_state()
     ensures rows { (table : Table) (state : State) (from : List ℕ) (most : ℕ) → Holds table state → IsState state → (listing_visits table (root state) from most).values ≡ take most (filter (λ row. reaches (nibbles from) row.0) (rows_of state)) }
     ensures pairs { (table : Table) (state : State) (from : List ℕ) (most : ℕ) → Holds table state → IsState state → (listing_visits table (root state) from most).values ≡ map (λ pair. (nibbles pair.0, pair.1)) (take most (filter (λ pair. reaches from pair.0) (entries state))) }
     ensures refusal { (table : Table) (state : State) (from : List ℕ) (most : ℕ) → Holds table state → IsState state → (listing_visits table (root state) from most).refusal ≡ None }
+{}
+
+/// Over the texts of a state, a listing goes through the places on the way to the key from which it starts and those that are not below it, in the order of places, and at each visits the node and then the value, if its key is not below.
+pub fn listing_by_places()
+    ensures { (table : Table) (state : State) (from : List ℕ) → Holds table state → IsState state → listing_steps (seen table (root state)) [] (nibbles from) ≡ flat_map (place_steps state (nibbles from)) (filter (is_listed_place (nibbles from)) (places_of state)) }
 {}
 
 /// Over any texts, the rows of a listing rise by path, there are at most so many as were asked for, and each keeps to the limits.
