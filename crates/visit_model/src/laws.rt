@@ -69,7 +69,8 @@ pub fn paths_have_keys()
 
 /// Where rows rise, a pair of theirs is put behind the pairs of those before it.
 pub fn rising_rows_are_put_at_the_end()
-    ensures { (state : State) (key value : List ℕ) (rows : List Row) → IsStrictlySortedBy (slice_cmp nat_cmp) (map (λ row. row.0) (rows_of state ++ (nibbles key, value) ∷ rows)) → rows_of (insert state key value) ≡ rows_of state ++ (nibbles key, value) ∷ [] }
+    ensures pairs { (state : State) (key value : List ℕ) (rows : List Row) → IsStrictlySortedBy (slice_cmp nat_cmp) (map (λ row. row.0) (rows_of state ++ (nibbles key, value) ∷ rows)) → entries (insert state key value) ≡ entries state ++ (key, value) ∷ [] }
+    ensures rows { (state : State) (key value : List ℕ) (rows : List Row) → IsStrictlySortedBy (slice_cmp nat_cmp) (map (λ row. row.0) (rows_of state ++ (nibbles key, value) ∷ rows)) → rows_of (insert state key value) ≡ rows_of state ++ (nibbles key, value) ∷ [] }
 {}
 
 /// The visit of the root of a state is that of one text, and of none where the state is empty.
