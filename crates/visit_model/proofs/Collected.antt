@@ -125,8 +125,10 @@ rows_of_pairs-append : (pairs others : List Pair) → rows_of_pairs (pairs ++ ot
 rows_of_pairs-append [] others = refl
 rows_of_pairs-append (pair ∷ pairs) others = ap (λ (rows : List Row). (nibbles pair.0, pair.1) ∷ rows) (rows_of_pairs-append pairs others)
 
+pub entries-insert_last : (state : State) (key value : List ℕ) (rows : List Row) → IsStrictlySortedBy (slice_cmp nat_cmp) (map (λ row. row.0) (rows_of state ++ (nibbles key, value) ∷ rows)) → entries (insert state key value) ≡ entries state ++ (key, value) ∷ []
+unfolding rows_of
+entries-insert_last state key value rows h = entries-insert nat_list_cmp_total state key value ∙ put-last key value (entries state) (all_before key value (entries state) rows h)
+
 pub rows_of-insert : (state : State) (key value : List ℕ) (rows : List Row) → IsStrictlySortedBy (slice_cmp nat_cmp) (map (λ row. row.0) (rows_of state ++ (nibbles key, value) ∷ rows)) → rows_of (insert state key value) ≡ rows_of state ++ (nibbles key, value) ∷ []
 unfolding rows_of
-rows_of-insert state key value rows h =
-    ap rows_of_pairs (entries-insert nat_list_cmp_total state key value ∙ put-last key value (entries state) (all_before key value (entries state) rows h))
-    ∙ rows_of_pairs-append (entries state) ((key, value) ∷ [])
+rows_of-insert state key value rows h = ap rows_of_pairs (entries-insert_last state key value rows h) ∙ rows_of_pairs-append (entries state) ((key, value) ∷ [])

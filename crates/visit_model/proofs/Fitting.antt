@@ -98,7 +98,7 @@ module _ (table : Table) (P : ℕ → Named → Type 0) (passes : PassesUp table
 -- ---- keys and values within their limits
 
 -- a value below so many nibbles
-pub record FitsBelow (depth : ℕ) (name : Named) : Type 0 where
+pub record NameFits (depth : ℕ) (name : Named) : Type 0 where
   pub whole : (depth + length name.0) % 2 ≡ 0
   pub path_length : depth + length name.0 ≤ longest_path
   pub value_length : name.1.size ≤ longest_value
@@ -120,7 +120,7 @@ nat_le-le m n h = grind (arith, nat_tests)
 nat_lt-lt : (m n : ℕ) → nat_lt m n ≡ true → m < n
 nat_lt-lt m n h = grind (arith, nat_tests)
 
-fits_leaf : (depth : ℕ) (after_extension : Bool) (path : List ℕ) (ref : ValueRef) → fits_at depth after_extension (node.leaf path ref) ≡ true → FitsBelow depth (path, ref)
+fits_leaf : (depth : ℕ) (after_extension : Bool) (path : List ℕ) (ref : ValueRef) → fits_at depth after_extension (node.leaf path ref) ≡ true → NameFits depth (path, ref)
 unfolding has_place
 fits_leaf depth after_extension path ref h =
     let n : ℕ = depth + length path in
@@ -132,7 +132,7 @@ fits_leaf depth after_extension path ref h =
       value_length = nat_le-le ref.size longest_value (both_first (nat_le ref.size longest_value) (is_whole n && nat_le n longest_path && not after_extension) h);
     }
 
-fits_here : (depth : ℕ) (after_extension : Bool) (ref : ValueRef) (kids : ℕ → Option (List ℕ)) → fits_at depth after_extension (node.branch (Some ref) kids) ≡ true → FitsBelow depth ([], ref)
+fits_here : (depth : ℕ) (after_extension : Bool) (ref : ValueRef) (kids : ℕ → Option (List ℕ)) → fits_at depth after_extension (node.branch (Some ref) kids) ≡ true → NameFits depth ([], ref)
 unfolding has_place
 fits_here depth after_extension ref kids h =
     let shape = both_first (nat_le ref.size longest_value && nat_le 1 (kid_count kids)) (nat_lt depth longest_path && is_whole depth) h in
@@ -145,15 +145,15 @@ fits_here depth after_extension ref kids h =
       value_length = nat_le-le ref.size longest_value (both_first (nat_le ref.size longest_value) (nat_le 1 (kid_count kids)) shape);
     }
 
-fits_behind : (depth : ℕ) (front : List ℕ) (name : Named) → FitsBelow (depth + length front) name → FitsBelow depth (front ++ name.0, name.1)
+fits_behind : (depth : ℕ) (front : List ℕ) (name : Named) → NameFits (depth + length front) name → NameFits depth (front ++ name.0, name.1)
 fits_behind depth front name h =
     let long = length-append front name.0 in
     let same : (depth + length front) + length name.0 ≡ depth + length (front ++ name.0) = omega arith in
     let fits : (depth + length front) + length name.0 ≤ longest_path = h.path_length in
     record { whole = ap (λ n. n % 2) (sym same) ∙ h.whole; path_length = omega arith; value_length = h.value_length }
 
-pub fit-seen : (table : Table) (root : List ℕ) → AllByRecursion (FitsBelow 0) (named_in (seen table root))
-fit-seen table root = all_seen table FitsBelow (record {
+pub fit-seen : (table : Table) (root : List ℕ) → AllByRecursion (NameFits 0) (named_in (seen table root))
+fit-seen table root = all_seen table NameFits (record {
   leaf = λ depth after_extension path ref h. fits_leaf depth after_extension path ref h.fits;
   here = λ depth after_extension ref kids h. fits_here depth after_extension ref kids h.fits;
   kid = λ depth x name small h. fits_behind depth (x ∷ []) name h;

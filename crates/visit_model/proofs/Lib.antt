@@ -14,3 +14,4 @@ pub mod Fitting
 pub mod Bytes
 pub mod Collected
 pub mod Rises
+pub mod ListedPlaces

@@ -26,7 +26,7 @@ use Rattle.visit_model.specs.Bounds.{reaches, IsListed}
 use Rattle.visit_model.specs.Keys.{AreByteTexts}
 use Rattle.visit_model.proofs.Bytes.{nibbles-seen}
 use Rattle.visit_model.proofs.Collected.{state-rising}
-use Rattle.visit_model.proofs.Fitting.{FitsBelow, fit-seen}
+use Rattle.visit_model.proofs.Fitting.{NameFits, fit-seen}
 use Rattle.visit_model.proofs.Rows.{Named, beneath, beneath-nil, name_here, named, named_in, reaching, named-listing_steps}
 
 -- ---- what is seen rises
@@ -167,7 +167,7 @@ listed_names : (table : Table) (root from : List ℕ) → named (listing_steps (
 listed_names table root from = named-listing_steps (seen table root) [] (nibbles from) ∙ beneath-nil (reaching (nibbles from) (named_in (seen table root)))
 
 abbrev Fitting : List ℕ → Named → Type 0
-Fitting bound name = FitsBelow 0 name × (reaches bound name.0 ≡ true)
+Fitting bound name = NameFits 0 name × (reaches bound name.0 ≡ true)
 
 reads_listing : (table : Table) (root from : List ℕ) (most : ℕ) → ReadsFront (IsListed (nibbles from)) most (named (listing_steps (seen table root) [] (nibbles from))) (listing_visits table root from most)
 reads_listing table root from most =
@@ -177,7 +177,7 @@ reads_listing table root from most =
     let same : 0 + length path ≡ length path = omega arith in
     record { reached = fits.1; whole = ap (λ n. n % 2) (sym same) ∙ fits.0.whole; path_length = subst (λ n. n ≤ longest_path) same fits.0.path_length; value_length = omega arith })
     most (listing_steps (seen table root) [] bound)
-    (subst (AllByRecursion (Fitting bound)) (sym (listed_names table root from)) (all-reaching (FitsBelow 0) bound (named_in (seen table root)) (fit-seen table root)))
+    (subst (AllByRecursion (Fitting bound)) (sym (listed_names table root from)) (all-reaching (NameFits 0) bound (named_in (seen table root)) (fit-seen table root)))
 
 pub listing-few : (table : Table) (root from : List ℕ) (most : ℕ) → length (listing_visits table root from most).values ≤ most
 listing-few table root from most = (reads_listing table root from most).few

@@ -49,7 +49,7 @@ reaching bound names = filter (λ name. reaches bound name.0) names
 -- ---- a bound behind a front
 
 -- what a front and the path behind it reach
-abbrev reaches_behind : Option (List ℕ) → List ℕ → Bool
+abbrev pub reaches_behind : Option (List ℕ) → List ℕ → Bool
 reaches_behind None path = false
 reaches_behind (Some bound) path = reaches bound path
 
@@ -58,7 +58,7 @@ reaches-empty : (path : List ℕ) → reaches [] path ≡ true
 reaches-empty [] = refl
 reaches-empty (x ∷ path) = refl
 
-reaches-front : (front bound path : List ℕ) → reaches bound (front ++ path) ≡ reaches_behind (bound_behind front bound) path
+pub reaches-front : (front bound path : List ℕ) → reaches bound (front ++ path) ≡ reaches_behind (bound_behind front bound) path
 unfolding bound_behind
 reaches-front [] bound path = refl
 reaches-front (x ∷ front) [] path = sym (reaches-empty path)

@@ -4,3 +4,4 @@ pub mod Visits
 pub mod Shown
 pub mod Bounds
 pub mod Keys
+pub mod Listed

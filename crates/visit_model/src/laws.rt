@@ -1,6 +1,6 @@
 //! Laws over the definitions, in other words than theirs. A law is proved where its function is: there is nothing to run.
 
-ghost use Rattle.std.specs.Prelude.{◌≡◌, ◌≢◌, ◌≤◌, ◌%◌, ◌^◌, ℕ, Bool, List, [], ◌∷◌, ◌++◌, length, map, filter, take, option_map, None};
+ghost use Rattle.std.specs.Prelude.{◌≡◌, ◌≢◌, ◌≤◌, ◌%◌, ◌^◌, ℕ, Bool, List, [], ◌∷◌, ◌++◌, length, map, filter, flat_map, take, option_map, None};
 ghost use Rattle.std.specs.List.{AllByRecursion};
 ghost use Rattle.std.specs.List.Sorted.{IsStrictlySortedBy};
 ghost use Rattle.std.specs.Ordering.{nat_cmp};
@@ -15,6 +15,8 @@ ghost use Rattle.visit_model.specs.Seen.{seen_at, seen_text, seen};
 ghost use Rattle.visit_model.specs.Shown.{shown};
 ghost use Rattle.visit_model.specs.Keys.{AreByteTexts, key_of};
 ghost use Rattle.visit_model.specs.Bounds.{has_front, reaches, at_most_one, IsListed};
+ghost use Rattle.visit_model.specs.Listed.{is_listed_place, place_steps};
+ghost use Rattle.visit_model.specs.Steps.{listing_steps};
 ghost use Rattle.visit_model.specs.Visits.{lookup_visits, listing_visits, top_visits, no_visits, node_first};
 
 /// The bound on the depth never shows.
@@ -41,6 +43,11 @@ pub fn listing_over_state()
     ensures refusal { (table : Table) (state : State) (from : List ℕ) (most : ℕ) → Holds table state → IsState state → (listing_visits table (root state) from most).refusal ≡ None }
 {}
 
+/// Over the texts of a state, a listing goes through the places on the way to the key from which it starts and those that are not below it, in the order of places, and at each visits the node and then the value, if its key is not below.
+pub fn listing_by_places()
+    ensures { (table : Table) (state : State) (from : List ℕ) → Holds table state → IsState state → listing_steps (seen table (root state)) [] (nibbles from) ≡ flat_map (place_steps state (nibbles from)) (filter (is_listed_place (nibbles from)) (places_of state)) }
+{}
+
 /// Over any texts, the rows of a listing rise by path, there are at most so many as were asked for, and each keeps to the limits.
 pub fn listing_rises()
     ensures rising { (table : Table) (root from : List ℕ) (most : ℕ) → IsStrictlySortedBy (slice_cmp nat_cmp) (map (λ row. row.0) (listing_visits table root from most).values) }
@@ -62,7 +69,8 @@ pub fn paths_have_keys()
 
 /// Where rows rise, a pair of theirs is put behind the pairs of those before it.
 pub fn rising_rows_are_put_at_the_end()
-    ensures { (state : State) (key value : List ℕ) (rows : List Row) → IsStrictlySortedBy (slice_cmp nat_cmp) (map (λ row. row.0) (rows_of state ++ (nibbles key, value) ∷ rows)) → rows_of (insert state key value) ≡ rows_of state ++ (nibbles key, value) ∷ [] }
+    ensures pairs { (state : State) (key value : List ℕ) (rows : List Row) → IsStrictlySortedBy (slice_cmp nat_cmp) (map (λ row. row.0) (rows_of state ++ (nibbles key, value) ∷ rows)) → entries (insert state key value) ≡ entries state ++ (key, value) ∷ [] }
+    ensures rows { (state : State) (key value : List ℕ) (rows : List Row) → IsStrictlySortedBy (slice_cmp nat_cmp) (map (λ row. row.0) (rows_of state ++ (nibbles key, value) ∷ rows)) → rows_of (insert state key value) ≡ rows_of state ++ (nibbles key, value) ∷ [] }
 {}
 
 /// The visit of the root of a state is that of one text, and of none where the state is empty.
