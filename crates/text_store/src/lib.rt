@@ -8,9 +8,11 @@ mod held;
 mod mem_nodes;
 mod nodes;
 mod texts;
-mod walking;
 
 pub use errors::{AddError, ReserveError};
 pub use mem_nodes::MemNodes;
 pub use nodes::Nodes;
 pub use texts::Texts;
+
+#[cfg(test)]
+mod tests;

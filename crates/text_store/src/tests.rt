@@ -1,0 +1,122 @@
+ghost use Rattle.std.specs.Prelude.{◌≡◌, ◌≤◌, OnOk, length};
+ghost use Rattle.text_store.specs.Loading.{risen};
+
+use super::*;
+use base_core::{Digest, Fault, Text, digest};
+use std::alloc::{AllocError, Global};
+use std::test::Fail;
+
+/// How many of these digests have a text, by a load for each.
+fn count_held<T: Texts>(store: &mut T, digests: &[Digest]) -> Result<usize, Fault>
+    ensures texts { T.texts store.new ≡ T.texts store.old }
+    ensures alike { T.alike store.old store.new }
+    ensures loads { OnOk result (T.load_count store.new ≡ risen (T.load_count store.old) (length digests.now)) }
+{
+    let mut count = 0;
+    for d in digests {
+        if store.load(d)?.is_some() {
+            count += 1;
+        }
+    }
+    Ok(count)
+}
+
+/// Adds a text under its digest: 0 where it was added, 1 where it clashes, 2 where the store failed,
+/// 3 where its count would be too high.
+fn keep<N: Nodes>(store: &mut N, alloc: Global, text: &[u8], times: u64) -> Result<u8, AllocError>
+    requires { 1 ≤ times }
+{
+    match store.reserve(1) {
+        Ok(()) => {}
+        Err(ReserveError::Fault) => return Ok(2),
+        Err(ReserveError::NoMemory) => return Err(AllocError),
+    }
+    let d = digest(text);
+    if store.count(&d) > u64::MAX - times {
+        return Ok(3);
+    }
+    match store.add(&d, Text::copy(alloc, text)?, times) {
+        Ok(()) => Ok(0),
+        Err(AddError::Clash { .. }) => Ok(1),
+        Err(AddError::Fault) => Ok(2),
+    }
+}
+
+/// Releases uses of a text, if it has so many.
+fn let_go<N: Nodes>(store: &mut N, d: &Digest, times: u64) -> Result<bool, Fault> {
+    if store.count(d) < times {
+        return Ok(false);
+    }
+    store.release(d, times)?;
+    Ok(true)
+}
+
+#[test]
+fn texts_are_counted(rt: HostRuntime) -> Result<(), Fail> {
+    let alloc = rt.alloc();
+    let mut store = MemNodes::new(alloc, &[])?;
+    let (a, b, c) = (digest(b"a"), digest(b"b"), digest(b"c"));
+    assert_eq!(rt; store.distinct(), 0);
+    assert_eq!(rt; keep(&mut store, alloc, b"a", 2)?, 0);
+    assert_eq!(rt; keep(&mut store, alloc, b"b", 1)?, 0);
+    assert_eq!(rt; keep(&mut store, alloc, b"b", 3)?, 0);
+    assert_eq!(rt; store.distinct(), 2);
+    assert_eq!(rt; store.count(&b), 4);
+    assert_eq!(rt; store.count(&c), 0);
+    assert!(rt; matches!(count_held(&mut store, &[a, b, c, Digest::ZERO]), Ok(2)));
+    assert_eq!(rt; store.loads(), 4);
+    assert!(rt; matches!(store.load(&b), Ok(Some(b"b"))));
+    Ok(())
+}
+
+#[test]
+fn text_goes_with_its_last_use(rt: HostRuntime) -> Result<(), Fail> {
+    let alloc = rt.alloc();
+    let mut store = MemNodes::new(alloc, &[])?;
+    let d = digest(b"a");
+    assert_eq!(rt; keep(&mut store, alloc, b"a", 3)?, 0);
+    assert!(rt; matches!(let_go(&mut store, &d, 2), Ok(true)));
+    assert_eq!(rt; store.count(&d), 1);
+    assert!(rt; matches!(let_go(&mut store, &d, 1), Ok(true)));
+    assert_eq!(rt; store.count(&d), 0);
+    assert_eq!(rt; store.distinct(), 0);
+    assert!(rt; matches!(store.load(&d), Ok(None)));
+    assert!(rt; matches!(let_go(&mut store, &d, 0), Ok(true)));
+    Ok(())
+}
+
+/// A text is kept, loaded and released. Which of these fail where this call fails.
+fn failures(alloc: Global, fails: u64) -> Result<(u8, bool, bool), AllocError> {
+    let mut store = MemNodes::new(alloc, &[fails])?;
+    let d = digest(b"a");
+    let kept = keep(&mut store, alloc, b"a", 1)?;
+    let load_failed = store.load(&d).is_err();
+    Ok((kept, load_failed, let_go(&mut store, &d, 1).is_err()))
+}
+
+#[test]
+fn each_call_fails_in_turn(rt: HostRuntime) -> Result<(), Fail> {
+    let alloc = rt.alloc();
+    assert_eq!(rt; failures(alloc, 1)?, (2, false, false));
+    assert_eq!(rt; failures(alloc, 2)?, (2, false, false));
+    assert_eq!(rt; failures(alloc, 3)?, (0, true, false));
+    assert_eq!(rt; failures(alloc, 4)?, (0, false, true));
+    assert_eq!(rt; failures(alloc, 5)?, (0, false, false));
+    Ok(())
+}
+
+#[test]
+fn faults_change_nothing(rt: HostRuntime) -> Result<(), Fail> {
+    let alloc = rt.alloc();
+    let mut store = MemNodes::new(alloc, &[5, 3, 4])?;
+    let d = digest(b"a");
+    assert_eq!(rt; keep(&mut store, alloc, b"a", 2)?, 0);
+    assert!(rt; store.load(&d).is_err());
+    assert_eq!(rt; keep(&mut store, alloc, b"b", 2)?, 2);
+    assert!(rt; let_go(&mut store, &d, 2).is_err());
+    assert_eq!(rt; store.distinct(), 1);
+    assert_eq!(rt; store.count(&d), 2);
+    assert!(rt; matches!(store.load(&d), Ok(Some(b"a"))));
+    assert_eq!(rt; store.loads(), 2);
+    Ok(())
+}
