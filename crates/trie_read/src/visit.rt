@@ -41,13 +41,20 @@ pub(crate) fn visit<T: Texts>(
 }
 
 /// Where the node of a text leads a key, if the text is one that fits.
+#[tactic(auto, unfolding(visit_model::specs::Seen::seen_record))]
 fn next(text: &[u8], depth: u64, after_extension: bool, key: &[u8]) -> Option<Next>
     requires depth { depth ≤ length (nibbles key.now) }
     requires short { length key.now ≤ longest_key }
     ensures { IsText depth after_extension (drop depth (nibbles key.now)) text.now result }
 {
     match read_node(text) {
-        Ok((node, _)) if fits(&node, depth, after_extension) => Some(follow(&node, depth, key)),
-        _ => None,
+        Err(_) => None,
+        Ok((node, _)) => {
+            if fits(&node, depth, after_extension) {
+                Some(follow(&node, depth, key))
+            } else {
+                None
+            }
+        }
     }
 }
