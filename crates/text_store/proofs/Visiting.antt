@@ -37,3 +37,26 @@ Remembers-more before mid None digests digest first last = tt
 Remembers-more before None (Some now) digests digest first last = absurd last
 Remembers-more None (Some there) (Some now) digests digest first last = absurd first
 Remembers-more (Some were) (Some there) (Some now) digests digest first last = last ∙ ap (λ k. insert k digest) first ∙ sym (with_all-end were digests digest)
+
+-- ---- loads after loads
+
+risen-then : (count n m : ℕ) → risen (risen count n) m ≡ risen count (n + m)
+risen-then count n m = omega arith
+
+pub HasLoaded-then : {S : Type 0} (alike : S → S → Type 0) (loads faults : S → ℕ) (old mid new : S) (n m : ℕ) → ((a b c : S) → alike a b → alike b c → alike a c) → HasLoaded alike loads faults old mid n → HasLoaded alike loads faults mid new m → HasLoaded alike loads faults old new (n + m)
+HasLoaded-then alike loads faults old mid new n m onward first second = record {
+  same = onward old mid new first.same second.same;
+  counted = second.counted ∙ ap (λ k. risen k m) first.counted ∙ risen-then (loads old) n m;
+  no_fall = let one = first.no_fall in let two = second.no_fall in omega arith;
+}
+
+with_all-append : (kept : Digests) (digests others : List (List ℕ)) → with_all kept (digests ++ others) ≡ with_all (with_all kept digests) others
+unfolding with_all
+with_all-append kept [] others = refl
+with_all-append kept (first ∷ digests) others = with_all-append (insert kept first) digests others
+
+pub Remembers-then : (before mid after : Option Digests) (digests others : List (List ℕ)) → Remembers before mid digests → Remembers mid after others → Remembers before after (digests ++ others)
+Remembers-then before mid None digests others first last = tt
+Remembers-then before None (Some now) digests others first last = absurd last
+Remembers-then None (Some there) (Some now) digests others first last = absurd first
+Remembers-then (Some were) (Some there) (Some now) digests others first last = last ∙ ap (λ k. with_all k others) first ∙ sym (with_all-append were digests others)

@@ -1,3 +1,5 @@
 pub mod Fronts
 pub mod Seeing
 pub mod Stores
+pub mod Following
+pub mod Finding

@@ -12,7 +12,10 @@ use Rattle.visit_model.specs.Seen.{Seen, Looks, missing, bad, seen_node, seen_re
 use Rattle.visit_model.specs.Seen as seen
 use Rattle.visit_model.specs.Steps.{Step, no_text, no_node, value}
 use Rattle.visit_model.specs.Steps as step
+use Rattle.node_codec.specs.declared.value_ref.ValueRef as codec
 use Rattle.node_codec.specs.Shown.{value_of}
+use Rattle.text_store.specs.Loading.{Digests}
+use Rattle.trie_read.specs.Stores.{VisitedAll}
 use Rattle.trie_read.specs.declared.errors.ReadError.{ReadError}
 use Rattle.trie_read.specs.declared.errors.ReadError.TheVariants.{Missing, Bad, Fault}
 use Rattle.trie_read.specs.declared.lookup.Next.{Next}
@@ -65,3 +68,31 @@ pub record Leading (depth : ℕ) (after_extension : Bool) (rest text : List ℕ)
 abbrev pub IsText : ℕ → Bool → List ℕ → List ℕ → Option Next → Type 0
 IsText depth after_extension rest text None = (look : Looks) (digest : List ℕ) → seen_record look depth after_extension digest (record_in text) ≡ bad digest
 IsText depth after_extension rest text (Some next) = Leading depth after_extension rest text next
+
+-- Nodes were visited, and then what is told by one more step, the last.
+pub record EndsWith (steps : List Step) (digests : List (List ℕ)) (last : Step) (digest : List ℕ) : Type 0 where
+  pub before : List (List ℕ)
+  pub visited : digests ≡ before ++ digest ∷ []
+  pub all : steps ≡ map step.node before ++ last ∷ []
+
+-- Nodes were visited, and one more step was begun.
+pub record Goes (steps : List Step) (digests : List (List ℕ)) : Type 0 where
+  pub before : List (List ℕ)
+  pub last : Step
+  pub further : List Step
+  pub visited : length digests ≡ length before + 1
+  pub all : steps ≡ map step.node before ++ last ∷ further
+
+-- What finding the value of a key answers: the digests visited on the way, which are all of the lookup but the visit of the value.
+abbrev pub Finds : List Step → List ℕ → List (List ℕ) → Result (Option codec.ValueRef) ReadError → Type 0
+Finds steps path digests (Ok None) = steps ≡ map step.node digests
+Finds steps path digests (Ok (Some found)) = steps ≡ map step.node digests ++ value path (value_of found) ∷ []
+Finds steps path digests (Err (Missing digest)) = EndsWith steps digests (no_text digest.0) digest.0
+Finds steps path digests (Err (Bad digest)) = EndsWith steps digests (no_node digest.0) digest.0
+Finds steps path digests (Err Fault) = Goes steps digests
+
+-- The same, and what it leaves of the store.
+pub record Found {S : Type 0} (alike : S → S → Type 0) (loads faults : S → ℕ) (kept : S → Option Digests) (old new : S) (steps : List Step) (path : List ℕ) (result : Result (Option codec.ValueRef) ReadError) : Type 0 where
+  pub digests : List (List ℕ)
+  pub finds : Finds steps path digests result
+  pub visited : VisitedAll alike loads faults kept old new digests result

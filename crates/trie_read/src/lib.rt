@@ -3,6 +3,7 @@
 #![tactic(auto)]
 
 mod errors;
+mod get;
 mod lookup;
 mod visit;
 

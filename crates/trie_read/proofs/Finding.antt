@@ -1,0 +1,214 @@
+-- How far the lookup of a key has come, and what each visit makes of that.
+use Rattle.std.proofs.Common.{◌≡◌, ℕ, zero, suc, ◌+◌, ◌-◌, ◌<◌, ◌≤◌, Bool, true, false, List, [], ◌∷◌, ◌++◌, length, map, take, drop, Option, None, Some, Result, Ok, Err, refl, sym, ap, ap₂, ◌∙◌, subst, arith, append_assoc, append-nil, length-append}
+use Rattle.std.specs.Option.{option_map}
+use Rattle.std.proofs.lemmas.List.{take-append-drop, take_at, drop_at, length-take-le, map-append}
+use Rattle.std.specs.Prelude.{if◌then◌else◌, nat_eq}
+use Rattle.std.specs.Cmp.Lexicographic.{pointwise}
+use Rattle.std.specs.FinMap.{get}
+use Rattle.byte_model.specs.PackedPath.{longest_path}
+use Rattle.byte_model.specs.Node as node
+use Rattle.byte_model.specs.Node.{Node}
+use Rattle.record_model.specs.Records.{RecordFault, record_in}
+use Rattle.record_model.specs.Fits.{fits_at}
+use Rattle.trie_model.specs.Root.{Table, zero_digest}
+use Rattle.base_core.specs.Faults.{Rose}
+use Rattle.base_core.specs.declared.hash.Digest.{Digest}
+use Rattle.visit_model.specs.Seen.{Seen, Looks, nothing, missing, bad, seen, seen_at, seen_node, seen_record, seen_text, seen_within}
+use Rattle.visit_model.specs.Steps.{Step, no_text, no_node, value, value_steps, lookup_steps}
+use Rattle.visit_model.specs.Steps as step
+use Rattle.node_codec.specs.declared.value_ref.ValueRef as codec
+use Rattle.node_codec.specs.Shown.{value_of}
+use Rattle.text_store.specs.Loading.{Digests}
+use Rattle.text_store.specs.Visiting.{HasLoaded, Remembers}
+use Rattle.text_store.proofs.Visiting.{HasLoaded-none, HasLoaded-then, Remembers-none, Remembers-then}
+use Rattle.trie_read.specs.declared.errors.ReadError.{ReadError}
+use Rattle.trie_read.specs.declared.errors.ReadError.TheVariants.{Missing, Bad, Fault}
+use Rattle.trie_read.specs.declared.lookup.Next.{Next}
+use Rattle.trie_read.specs.declared.lookup.Next.TheVariants.{End, Child}
+use Rattle.trie_read.specs.Lookups.{IsNext, AnswersVisit, EndsWith, Goes, Finds, Found, leads_seen, leads, ends, child}
+use Rattle.trie_read.specs.Stores.{Follows, Visited, VisitedAll}
+use Rattle.trie_read.proofs.Following.{Leading, GoesOn, leading}
+
+-- These nodes were visited, and the lookup goes on at a place.
+pub record Reaches (table : Table) (steps : List Step) (path : List ℕ) (digests : List (List ℕ)) (digest : List ℕ) (depth : ℕ) (after_extension : Bool) : Type 0 where
+  pub steps_are : steps ≡ map step.node digests ++ lookup_steps (seen_at table depth after_extension digest) (take depth path) (drop depth path)
+  pub deep : depth ≤ length path
+
+nodes-more : (digests : List (List ℕ)) (digest : List ℕ) (steps : List Step) → map step.node digests ++ step.node digest ∷ steps ≡ map step.node (digests ++ digest ∷ []) ++ steps
+nodes-more digests digest steps =
+    sym (append_assoc (map step.node digests) (step.node digest ∷ []) steps) ∙ ap (λ (l : List Step). l ++ steps) (sym (map-append step.node digests (digest ∷ [])))
+
+-- where the visited node leads
+lead : (table : Table) (path : List ℕ) (digest : List ℕ) (depth : ℕ) (after_extension : Bool) (next : Next) (n : IsNext table (seen_at table depth after_extension digest) digest depth after_extension (drop depth path) next) → Leading (seen_at table) depth digest n.usage (take depth path) (drop depth path) n.node (leads_seen next)
+lead table path digest depth after_extension next n = subst (Leading (seen_at table) depth digest n.usage (take depth path) (drop depth path) n.node) (sym n.leads) (leading (seen_at table) depth after_extension digest n.usage (take depth path) (drop depth path) n.node n.fits)
+
+-- the lookup ends with this node, and a value or none
+pub ended : (table : Table) (steps : List Step) (path : List ℕ) (digests : List (List ℕ)) (digest : List ℕ) (depth : ℕ) (after_extension : Bool) (found : Option codec.ValueRef) → Reaches table steps path digests digest depth after_extension → IsNext table (seen_at table depth after_extension digest) digest depth after_extension (drop depth path) (End found) → Finds steps path (digests ++ digest ∷ []) (Ok found)
+ended table steps path digests digest depth after_extension found reached n = go found (lead table path digest depth after_extension (End found) n)
+  where
+    whole : take depth path ++ drop depth path ≡ path
+    whole = take-append-drop depth path
+
+    all : (last : List Step) → lookup_steps (seen_node (seen_at table) depth digest n.node n.usage) (take depth path) (drop depth path) ≡ step.node digest ∷ last → steps ≡ map step.node (digests ++ digest ∷ []) ++ last
+    all last e = reached.steps_are ∙ ap (λ (seen : Seen). map step.node digests ++ lookup_steps seen (take depth path) (drop depth path)) n.seen ∙ ap (λ (l : List Step). map step.node digests ++ l) e ∙ nodes-more digests digest last
+
+    go : (o : Option codec.ValueRef) → Leading (seen_at table) depth digest n.usage (take depth path) (drop depth path) n.node (leads_seen (End o)) → Finds steps path (digests ++ digest ∷ []) (Ok o)
+    go None e = all [] e ∙ append-nil (map step.node (digests ++ digest ∷ []))
+    go (Some v) e = all (value (take depth path ++ drop depth path) (value_of v) ∷ []) e ∙ ap (λ (l : List ℕ). map step.node (digests ++ digest ∷ []) ++ value l (value_of v) ∷ []) whole
+
+-- or goes on at a child, which is deeper
+pub record Deeper (table : Table) (steps : List Step) (path : List ℕ) (digests : List (List ℕ)) (digest : List ℕ) (depth deeper : ℕ) (after_extension : Bool) : Type 0 where
+  pub reaches : Reaches table steps path digests digest deeper after_extension
+  pub below : depth < deeper
+
+parts_of : (path front more : List ℕ) (depth deeper : ℕ) → depth ≤ length path → drop depth path ≡ front ++ more → deeper ≡ depth + length front → (take depth path ++ front ≡ take deeper path) × (more ≡ drop deeper path) × (deeper ≤ length path)
+parts_of path front more depth deeper deep parts is =
+    let behind : length (take depth path) ≡ depth = length-take-le depth path deep in
+    let width : length (take depth path ++ front) ≡ deeper = length-append (take depth path) front ∙ ap (λ (n : ℕ). n + length front) behind ∙ sym is in
+    let whole : path ≡ (take depth path ++ front) ++ more = sym (take-append-drop depth path) ∙ ap (λ (l : List ℕ). take depth path ++ l) parts ∙ sym (append_assoc (take depth path) front more) in
+    let front_is : take deeper path ≡ take depth path ++ front = ap (take deeper) whole ∙ take_at (take depth path ++ front) more deeper width in
+    let rest_is : drop deeper path ≡ more = ap (drop deeper) whole ∙ drop_at (take depth path ++ front) more deeper width in
+    let count : length path ≡ deeper + length more = ap length whole ∙ length-append (take depth path ++ front) more ∙ ap (λ (n : ℕ). n + length more) width in
+    (sym front_is, sym rest_is, omega arith)
+
+pub went_on : (table : Table) (steps : List Step) (path : List ℕ) (digests : List (List ℕ)) (digest : List ℕ) (depth : ℕ) (after_extension : Bool) (next : Next) (below : List ℕ) (deeper : ℕ) (extended : Bool) → Reaches table steps path digests digest depth after_extension → IsNext table (seen_at table depth after_extension digest) digest depth after_extension (drop depth path) next → leads_seen next ≡ child below deeper extended → Deeper table steps path (digests ++ digest ∷ []) below depth deeper extended
+went_on table steps path digests digest depth after_extension next below deeper extended reached n is =
+    let on : GoesOn (seen_at table) depth digest n.usage (take depth path) (drop depth path) n.node below deeper extended = subst (Leading (seen_at table) depth digest n.usage (take depth path) (drop depth path) n.node) is (lead table path digest depth after_extension next n) in
+    let parts = parts_of path on.front on.more depth deeper reached.deep on.parts on.depth_is in
+    let all : steps ≡ map step.node (digests ++ digest ∷ []) ++ lookup_steps (seen_at table deeper extended below) (take depth path ++ on.front) on.more =
+      reached.steps_are ∙ ap (λ (seen : Seen). map step.node digests ++ lookup_steps seen (take depth path) (drop depth path)) n.seen ∙ ap (λ (l : List Step). map step.node digests ++ l) on.steps ∙ nodes-more digests digest _ in
+    let some = on.some in
+    let depth_is = on.depth_is in
+    record {
+      reaches = record {
+        steps_are = all ∙ ap₂ (λ (before rest : List ℕ). map step.node (digests ++ digest ∷ []) ++ lookup_steps (seen_at table deeper extended below) before rest) parts.0 parts.1;
+        deep = parts.2;
+      };
+      below = omega arith;
+    }
+
+-- A place is visited by a step at least.
+abbrev Some_step : List Step → Type 0
+Some_step steps = (first : Step) × (further : List Step) × (steps ≡ first ∷ further)
+
+of_node : (look : Looks) (depth : ℕ) (digest : List ℕ) (n : Node) (usage : ℕ) (before rest : List ℕ) → Some_step (lookup_steps (seen_node look depth digest n usage) before rest)
+unfolding seen_node lookup_steps
+of_node look depth digest (node.leaf path ref) usage before rest = (_, _, refl)
+of_node look depth digest (node.branch ref kids) usage before [] = (_, _, refl)
+of_node look depth digest (node.branch ref kids) usage before (x ∷ rest) = (_, _, refl)
+of_node look depth digest (node.extension path below) usage before rest = (_, _, refl)
+
+of_fitting : (look : Looks) (depth : ℕ) (digest : List ℕ) (n : Node) (usage : ℕ) (fits : Bool) (before rest : List ℕ) → Some_step (lookup_steps (if fits then seen_node look depth digest n usage else bad digest) before rest)
+unfolding lookup_steps
+of_fitting look depth digest n usage true before rest = of_node look depth digest n usage before rest
+of_fitting look depth digest n usage false before rest = (_, _, refl)
+
+of_record : (look : Looks) (depth : ℕ) (after_extension : Bool) (digest : List ℕ) (read : Result (Node × ℕ) RecordFault) (before rest : List ℕ) → Some_step (lookup_steps (seen_record look depth after_extension digest read) before rest)
+unfolding seen_record lookup_steps
+of_record look depth after_extension digest (Err e) before rest = (_, _, refl)
+of_record look depth after_extension digest (Ok r) before rest = of_fitting look depth digest r.0 r.1 (fits_at depth after_extension r.0) before rest
+
+of_text : (look : Looks) (depth : ℕ) (after_extension : Bool) (digest : List ℕ) (held : Option (List ℕ)) (before rest : List ℕ) → Some_step (lookup_steps (seen_text look depth after_extension digest held) before rest)
+unfolding seen_text lookup_steps
+of_text look depth after_extension digest None before rest = (_, _, refl)
+of_text look depth after_extension digest (Some text) before rest = of_record look depth after_extension digest (record_in text) before rest
+
+within : (n : ℕ) (table : Table) (depth : ℕ) (after_extension : Bool) (digest before rest : List ℕ) → Some_step (lookup_steps (seen_within n table depth after_extension digest) before rest)
+unfolding seen_within lookup_steps
+within zero table depth after_extension digest before rest = (_, _, refl)
+within (suc n) table depth after_extension digest before rest = of_text (seen_within n table) depth after_extension digest (get table digest) before rest
+
+first_step : (table : Table) (depth : ℕ) (after_extension : Bool) (digest before rest : List ℕ) → Some_step (lookup_steps (seen_at table depth after_extension digest) before rest)
+unfolding seen_at
+first_step table depth after_extension digest before rest = within (suc longest_path - depth) table depth after_extension digest before rest
+
+-- or a test fails there
+pub refused : (table : Table) (steps : List Step) (path : List ℕ) (digests : List (List ℕ)) (digest : List ℕ) (depth : ℕ) (after_extension : Bool) (error : ReadError) → Reaches table steps path digests digest depth after_extension → AnswersVisit table (seen_at table depth after_extension digest) digest depth after_extension (drop depth path) (Err error) → Finds steps path (digests ++ digest ∷ []) (Err error)
+unfolding lookup_steps
+refused table steps path digests digest depth after_extension (Missing named) reached answer = record {
+  before = digests;
+  visited = ap (λ (d : List ℕ). digests ++ d ∷ []) (sym answer.0);
+  all = reached.steps_are ∙ ap (λ (seen : Seen). map step.node digests ++ lookup_steps seen (take depth path) (drop depth path)) answer.1 ∙ ap (λ (d : List ℕ). map step.node digests ++ no_text d ∷ []) (sym answer.0);
+}
+refused table steps path digests digest depth after_extension (Bad named) reached answer = record {
+  before = digests;
+  visited = ap (λ (d : List ℕ). digests ++ d ∷ []) (sym answer.0);
+  all = reached.steps_are ∙ ap (λ (seen : Seen). map step.node digests ++ lookup_steps seen (take depth path) (drop depth path)) answer.1 ∙ ap (λ (d : List ℕ). map step.node digests ++ no_node d ∷ []) (sym answer.0);
+}
+refused table steps path digests digest depth after_extension Fault reached answer =
+    let some = first_step table depth after_extension digest (take depth path) (drop depth path) in
+    record {
+      before = digests;
+      last = some.0;
+      further = some.1;
+      visited = length-append digests (digest ∷ []);
+      all = reached.steps_are ∙ ap (λ (l : List Step). map step.node digests ++ l) some.2;
+    }
+
+-- How far it has come, and what that left of the store.
+pub record IsAt {S : Type 0} (alike : S → S → Type 0) (loads faults : S → ℕ) (kept : S → Option Digests) (old now : S) (table : Table) (steps : List Step) (path : List ℕ) (digest : List ℕ) (depth : ℕ) (after_extension : Bool) : Type 0 where
+  pub digests : List (List ℕ)
+  pub reaches : Reaches table steps path digests digest depth after_extension
+  pub loaded : HasLoaded alike loads faults old now (length digests)
+  pub remembers : Remembers (kept old) (kept now) digests
+
+-- ---- at the begin, and after each visit
+
+pub root-zero : (table : Table) (root : List ℕ) (path : List ℕ) → true ≡ pointwise nat_eq root zero_digest → lookup_steps (seen table root) [] path ≡ []
+unfolding seen lookup_steps
+root-zero table root path is = ap (λ (b : Bool). lookup_steps (if b then nothing else seen_at table 0 false root) [] path) (sym is)
+
+pub root-seen : (table : Table) (root : List ℕ) → false ≡ pointwise nat_eq root zero_digest → seen table root ≡ seen_at table 0 false root
+unfolding seen
+root-seen table root nonzero = ap (λ (b : Bool). if b then nothing else seen_at table 0 false root) (sym nonzero)
+
+pub at_root : {S : Type 0} (alike : S → S → Type 0) (loads faults : S → ℕ) (kept : S → Option Digests) (old : S) (table : Table) (root path : List ℕ) → ((a : S) → alike a a) → false ≡ pointwise nat_eq root zero_digest → IsAt alike loads faults kept old old table (lookup_steps (seen table root) [] path) path root 0 false
+at_root alike loads faults kept old table root path itself nonzero = record {
+  digests = [];
+  reaches = record { steps_are = ap (λ (s : Seen). lookup_steps s [] path) (root-seen table root nonzero); deep = omega arith };
+  loaded = HasLoaded-none alike loads faults old (itself old);
+  remembers = Remembers-none (kept old);
+}
+
+-- what a visit adds to what was loaded
+visited_more : {S X : Type 0} (alike : S → S → Type 0) (loads faults : S → ℕ) (kept : S → Option Digests) (old mid new : S) (digests : List (List ℕ)) (digest : List ℕ) (result : Result X ReadError) → ((a b c : S) → alike a b → alike b c → alike a c) → HasLoaded alike loads faults old mid (length digests) → Visited alike loads faults kept mid new digest result → HasLoaded alike loads faults old new (length (digests ++ digest ∷ []))
+visited_more alike loads faults kept old mid new digests digest result onward before more =
+    subst (HasLoaded alike loads faults old new) (sym (length-append digests (digest ∷ []))) (HasLoaded-then alike loads faults old mid new (length digests) 1 onward before more.loaded)
+
+rose_after : (a b c : ℕ) → a ≤ b → Rose b c → Rose a c
+rose_after a b c h r = omega arith
+
+pub found_end : {S : Type 0} (alike : S → S → Type 0) (loads faults : S → ℕ) (kept : S → Option Digests) (old mid new : S) (table other : Table) (steps : List Step) (path : List ℕ) (digest : List ℕ) (depth : ℕ) (after_extension : Bool) (found : Option codec.ValueRef) → ((a b c : S) → alike a b → alike b c → alike a c) → other ≡ table → IsAt alike loads faults kept old mid table steps path digest depth after_extension → IsNext other (seen_at other depth after_extension digest) digest depth after_extension (drop depth path) (End found) → Visited {X = Next} alike loads faults kept mid new digest (Ok (End found)) → Found alike loads faults kept old new steps path (Ok found)
+found_end alike loads faults kept old mid new table other steps path digest depth after_extension found onward same at next more = record {
+  digests = at.digests ++ digest ∷ [];
+  finds = ended table steps path at.digests digest depth after_extension found at.reaches (subst (λ (t : Table). IsNext t (seen_at t depth after_extension digest) digest depth after_extension (drop depth path) (End found)) same next);
+  visited = record {
+    loaded = visited_more alike loads faults kept old mid new at.digests digest (Ok (End found)) onward at.loaded more;
+    follows = Remembers-then (kept old) (kept mid) (kept new) at.digests (digest ∷ []) at.remembers more.follows;
+  };
+}
+
+pub found_refused : {S : Type 0} (alike : S → S → Type 0) (loads faults : S → ℕ) (kept : S → Option Digests) (old mid new : S) (table other : Table) (steps : List Step) (path : List ℕ) (digest : List ℕ) (depth : ℕ) (after_extension : Bool) (error : ReadError) → ((a b c : S) → alike a b → alike b c → alike a c) → other ≡ table → IsAt alike loads faults kept old mid table steps path digest depth after_extension → AnswersVisit other (seen_at other depth after_extension digest) digest depth after_extension (drop depth path) (Err error) → Visited {X = Next} alike loads faults kept mid new digest (Err error) → Found alike loads faults kept old new steps path (Err error)
+found_refused alike loads faults kept old mid new table other steps path digest depth after_extension error onward same at answer more = record {
+  digests = at.digests ++ digest ∷ [];
+  finds = refused table steps path at.digests digest depth after_extension error at.reaches (subst (λ (t : Table). AnswersVisit t (seen_at t depth after_extension digest) digest depth after_extension (drop depth path) (Err error)) same answer);
+  visited = record {
+    loaded = visited_more alike loads faults kept old mid new at.digests digest (Err error) onward at.loaded more;
+    follows = follows error more.follows;
+  };
+}
+  where
+    follows : (e : ReadError) → Follows {X = Next} (faults mid) (faults new) (kept mid) (kept new) (digest ∷ []) (Err e) → Follows {X = Option codec.ValueRef} (faults old) (faults new) (kept old) (kept new) (at.digests ++ digest ∷ []) (Err e)
+    follows (Missing d) f = tt
+    follows (Bad d) f = tt
+    follows Fault f = rose_after (faults old) (faults mid) (faults new) at.loaded.no_fall f
+
+pub found_deeper : {S : Type 0} (alike : S → S → Type 0) (loads faults : S → ℕ) (kept : S → Option Digests) (old mid new : S) (table other : Table) (steps : List Step) (path : List ℕ) (digest : List ℕ) (depth : ℕ) (after_extension : Bool) (below : Digest) (deeper : ℕ) (extended : Bool) → ((a b c : S) → alike a b → alike b c → alike a c) → other ≡ table → IsAt alike loads faults kept old mid table steps path digest depth after_extension → IsNext other (seen_at other depth after_extension digest) digest depth after_extension (drop depth path) (Child below deeper extended) → Visited {X = Next} alike loads faults kept mid new digest (Ok (Child below deeper extended)) → IsAt alike loads faults kept old new table steps path below.0 deeper extended × (depth < deeper)
+found_deeper alike loads faults kept old mid new table other steps path digest depth after_extension below deeper extended onward same at next more =
+    let on = went_on table steps path at.digests digest depth after_extension (Child below deeper extended) below.0 deeper extended at.reaches (subst (λ (t : Table). IsNext t (seen_at t depth after_extension digest) digest depth after_extension (drop depth path) (Child below deeper extended)) same next) refl in
+    (record {
+      digests = at.digests ++ digest ∷ [];
+      reaches = on.reaches;
+      loaded = visited_more alike loads faults kept old mid new at.digests digest (Ok (Child below deeper extended)) onward at.loaded more;
+      remembers = Remembers-then (kept old) (kept mid) (kept new) at.digests (digest ∷ []) at.remembers more.follows;
+    }, on.below)
