@@ -2,4 +2,6 @@ pub mod Fronts
 pub mod Seeing
 pub mod Stores
 pub mod Following
-pub mod Finding
+pub mod OnTheWay
+pub mod Looked
+pub mod States

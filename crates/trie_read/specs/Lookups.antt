@@ -1,6 +1,8 @@
 -- One step of a lookup: where a node leads the nibbles that are left of a key.
-use Rattle.std.specs.Prelude.{◌≡◌, ℕ, ◌+◌, nat_eq, Bool, true, false, List, [], ◌∷◌, ◌++◌, length, map, Option, None, Some, is_some, Result, Ok, Err, if◌then◌else◌, ⊤}
-use Rattle.std.specs.Option.{option_map}
+use Rattle.std.specs.Prelude.{◌≡◌, ◌≢◌, IsSomeAnd, ℕ, ◌+◌, nat_eq, Bool, true, false, List, [], ◌∷◌, ◌++◌, length, map, Option, None, Some, is_some, Result, Ok, Err, if◌then◌else◌, ⊤}
+use Rattle.std.specs.Borrow.{Bor}
+use Rattle.std.specs.Option.{option_map, option_copied}
+use Rattle.std.specs.FinMap.{get}
 use Rattle.std.specs.Cmp.Lexicographic.{pointwise}
 use Rattle.byte_model.specs.Node as node
 use Rattle.byte_model.specs.Node.{Node, ValueRef}
@@ -12,6 +14,9 @@ use Rattle.visit_model.specs.Seen.{Seen, Looks, missing, bad, seen_node, seen_re
 use Rattle.visit_model.specs.Seen as seen
 use Rattle.visit_model.specs.Steps.{Step, no_text, no_node, value}
 use Rattle.visit_model.specs.Steps as step
+use Rattle.visit_model.specs.Visits as visiting
+use Rattle.visit_model.specs.Visits.{Visits}
+use Rattle.visit_model.specs.Bounds.{at_most_one}
 use Rattle.node_codec.specs.declared.value_ref.ValueRef as codec
 use Rattle.node_codec.specs.Shown.{value_of}
 use Rattle.text_store.specs.Loading.{Digests}
@@ -96,3 +101,23 @@ pub record Found {S : Type 0} (alike : S → S → Type 0) (loads faults : S →
   pub digests : List (List ℕ)
   pub finds : Finds steps path digests result
   pub visited : VisitedAll alike loads faults kept old new digests result
+
+-- what visiting a value answers
+abbrev pub AnswersValue : Table → codec.ValueRef → Result (Bor (List ℕ)) ReadError → Type 0
+AnswersValue table ref (Ok text) = (get table ref.digest.0 ≡ Some text.now) × (length text.now ≡ ref.length)
+AnswersValue table ref (Err (Missing named)) = (named ≡ ref.digest) × (get table ref.digest.0 ≡ None)
+AnswersValue table ref (Err (Bad named)) = (named ≡ ref.digest) × IsSomeAnd (get table ref.digest.0) (λ text. length text ≢ ref.length)
+AnswersValue table ref (Err Fault) = ⊤
+
+-- What looking a key up answers, by its visits: the value visited, or none; or the test that failed. Where the store failed, nothing more is told.
+abbrev pub AnswersLookup : Visits → List ℕ → Result (Option (Bor (List ℕ))) ReadError → Type 0
+AnswersLookup visits path (Ok found) = (visits.values ≡ at_most_one (option_map (λ text. (path, text)) (option_copied found))) × (visits.refusal ≡ None)
+AnswersLookup visits path (Err (Missing digest)) = visits.refusal ≡ Some (visiting.missing digest.0)
+AnswersLookup visits path (Err (Bad digest)) = visits.refusal ≡ Some (visiting.bad digest.0)
+AnswersLookup visits path (Err Fault) = ⊤
+
+-- the value of a key of a state, or a failure of the store
+abbrev pub AnswersState : Option (List ℕ) → Result (Option (Bor (List ℕ))) ReadError → Type 0
+AnswersState held (Ok found) = option_copied found ≡ held
+AnswersState held (Err Fault) = ⊤
+AnswersState held (Err _) = ⊥

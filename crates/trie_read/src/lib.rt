@@ -3,8 +3,9 @@
 #![tactic(auto)]
 
 mod errors;
-mod get;
+mod finding;
 mod lookup;
 mod visit;
 
 pub use errors::{ListError, ReadError};
+pub use finding::get;

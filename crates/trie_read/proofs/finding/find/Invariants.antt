@@ -2,8 +2,8 @@ use Rattle.std.proofs.Common.{◌≡◌, ◌≤◌, List, ℕ, [], length, ◌+�
 use Rattle.byte_model.specs.Nibbles.{nibbles}
 use Rattle.visit_model.specs.Seen.{seen}
 use Rattle.visit_model.specs.Steps.{lookup_steps}
-use Rattle.trie_read.proofs.Finding.{IsAt}
-use Rattle.trie_read.proofs.get.find.Given as goal
+use Rattle.trie_read.proofs.OnTheWay.{IsAt}
+use Rattle.trie_read.proofs.finding.find.Given as goal
 
 abbrev pub invariant-loop-error : goal.invariant-loop-error
 invariant-loop-error g l = IsAt g.T.Texts.alike g.T.Texts.load_count g.T.Texts.faults g.T.Texts.kept l.fn.store l.store (g.T.Texts.texts l.fn.store) (lookup_steps (seen (g.T.Texts.texts l.fn.store) l.fn.root.0) [] (nibbles l.key)) (nibbles l.key) l.digest.0 l.depth l.after_extension

@@ -5,11 +5,11 @@ use Rattle.visit_model.specs.Steps.{lookup_steps}
 use Rattle.text_store.proofs.Visiting.{HasLoaded-none, Remembers-none}
 use Rattle.trie_read.specs.Lookups.{AnswersVisit}
 use Rattle.trie_read.specs.Stores.{Visited}
-use Rattle.trie_read.proofs.Finding.{root-zero, at_root, found_end, found_refused, found_deeper}
-use Rattle.trie_read.proofs.get.find.Goals as goal
+use Rattle.trie_read.proofs.OnTheWay.{root-zero, at_root, found_end, found_refused, found_deeper}
+use Rattle.trie_read.proofs.finding.find.Goals as goal
 
-pub returns-then-eq : goal.returns-then-eq
-returns-then-eq g c = record {
+pub returns-then-eq-clause-found : goal.returns-then-eq-clause-found
+returns-then-eq-clause-found g c = record {
   digests = [];
   finds = root-zero (g.T.Texts.texts c.args.store.now) c.args.root.now.0 (nibbles c.args.key.now) c.if-eq.ensures;
   visited = record {
@@ -24,14 +24,14 @@ loop-error-init g c = at_root g.T.Texts.alike g.T.Texts.load_count g.T.Texts.fau
 pub visit-requires-clause-depth : goal.visit-requires-clause-depth
 visit-requires-clause-depth g c = c.loop-error.invariant.reaches.deep
 
-pub returns-in-Err : goal.returns-in-Err
-returns-in-Err g c =
+pub returns-in-Err-clause-found : goal.returns-in-Err-clause-found
+returns-in-Err-clause-found g c =
     let texts = g.T.Texts.texts in
     let same = sym (g.met.T.Texts.alike_texts c.args.store.now c.loop-error.store c.loop-error.invariant.loaded.same) in
     found_refused g.T.Texts.alike g.T.Texts.load_count g.T.Texts.faults g.T.Texts.kept c.args.store.now c.loop-error.store c.visit.new.store (texts c.args.store.now) (texts c.loop-error.store) (lookup_steps (seen (texts c.args.store.now) c.args.root.now.0) [] (nibbles c.args.key.now)) (nibbles c.args.key.now) c.loop-error.digest.0 c.loop-error.depth c.loop-error.after_extension c.in-Err.error g.met.T.Texts.alike_onward same c.loop-error.invariant c.in-Err.ensures.answer c.in-Err.ensures.visited
 
-pub returns-in-Ok-End : goal.returns-in-Ok-End
-returns-in-Ok-End g c =
+pub returns-in-Ok-End-clause-found : goal.returns-in-Ok-End-clause-found
+returns-in-Ok-End-clause-found g c =
     let texts = g.T.Texts.texts in
     let same = sym (g.met.T.Texts.alike_texts c.args.store.now c.loop-error.store c.loop-error.invariant.loaded.same) in
     found_end g.T.Texts.alike g.T.Texts.load_count g.T.Texts.faults g.T.Texts.kept c.args.store.now c.loop-error.store c.visit.new.store (texts c.args.store.now) (texts c.loop-error.store) (lookup_steps (seen (texts c.args.store.now) c.args.root.now.0) [] (nibbles c.args.key.now)) (nibbles c.args.key.now) c.loop-error.digest.0 c.loop-error.depth c.loop-error.after_extension c.in-Ok-End.value g.met.T.Texts.alike_onward same c.loop-error.invariant (rw c.in-Ok-End.field-0-is at c.in-Ok-End.ensures.answer) (rw c.in-Ok-End.field-0-is at c.in-Ok-End.ensures.visited)
