@@ -5,3 +5,4 @@ pub mod Following
 pub mod OnTheWay
 pub mod Looked
 pub mod States
+pub mod Topmost

@@ -5,7 +5,9 @@
 mod errors;
 mod finding;
 mod lookup;
+mod usage;
 mod visit;
 
 pub use errors::{ListError, ReadError};
 pub use finding::get;
+pub use usage::usage_of;
