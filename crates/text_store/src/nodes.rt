@@ -27,7 +27,7 @@ pub trait Nodes: Texts {
         ensures rose { result ≡ Err ReserveError.Fault → Rose (Self.faults self.old) (Self.faults self.new) };
 
     /// Raises the count of a text by `times`. With 0 it only compares the text with the one that is
-    /// held. It takes no memory.
+    /// held. It takes no memory, since there is room.
     fn add(&mut self, d: &Digest, text: Text, times: u64) -> Result<(), AddError>
         requires digest { d.now.0 ≡ sha256 text }
         requires room { 1 ≤ spare self.old }

@@ -21,13 +21,14 @@ pub trait Texts {
     /// The digests that the object remembers as loaded, where it tells them.
     ghost kept: { Self → Option Digests };
 
-    /// The two states of the object hold the same texts, and whatever else it says of itself.
+    /// Whether two states of the object are alike: they hold the same texts, and agree in whatever
+    /// else the object says.
     ghost alike: { Self → Self → Type 0 };
 
-    /// What a load leaves of the object, where it says more than each must.
+    /// What a load leaves of the object, where it says more than `load` does.
     ghost load_leaves: { Self → Self → Type 0 } = { λ _ _. ⊤ };
 
-    /// The text of a digest, where one is held.
+    /// The text of a digest, or `None` where none is held. The load is counted in any case.
     fn load(&mut self, d: &Digest) -> Result<Option<&[u8]>, Fault>
         ensures* after { sem 𝓛 (follows_so Self.row Self.row self.entry.ghost_name NO_NAME (λ _ _. ⊤)
             (λ new. alike self.old new × Loaded (load_count self.old) (load_count new) (faults self.old) (faults new) (kept self.old) (kept new) d.now.0 result × load_leaves self.old new)) }
@@ -38,10 +39,10 @@ pub trait Texts {
     fn loads(&self) -> u64
         ensures { result ≡ load_count self.now };
 
-    /// Each state is alike itself.
+    /// Each state is alike to itself.
     ghost alike_itself: { (a : Self) → alike a a };
 
-    /// What is alike an alike state is alike the first.
+    /// Being alike carries over.
     ghost alike_onward: { (a b c : Self) → alike a b → alike b c → alike a c };
 
     /// Alike states hold the same texts.
