@@ -1,6 +1,7 @@
 pub mod Fronts
 pub mod Seeing
 pub mod Stores
+pub mod There
 pub mod Following
 pub mod OnTheWay
 pub mod Looked

@@ -27,6 +27,7 @@ use Rattle.trie_read.specs.declared.lookup.Next.{Next}
 use Rattle.trie_read.specs.declared.lookup.Next.TheVariants.{End, Child}
 use Rattle.trie_read.specs.Lookups.{IsNext, AnswersVisit, EndsWith, Goes, Finds, Found, leads_seen, leads, ends, child}
 use Rattle.trie_read.specs.Stores.{Follows, Visited, VisitedAll}
+use Rattle.trie_read.proofs.There.{seen_at-there, lookup-some}
 use Rattle.trie_read.proofs.Following.{Leading, GoesOn, leading}
 
 -- These nodes were visited, and the lookup goes on at a place.
@@ -87,41 +88,6 @@ went_on table steps path digests digest depth after_extension next below deeper 
       below = omega arith;
     }
 
--- A place is visited by a step at least.
-abbrev Some_step : List Step → Type 0
-Some_step steps = (first : Step) × (further : List Step) × (steps ≡ first ∷ further)
-
-of_node : (look : Looks) (depth : ℕ) (digest : List ℕ) (n : Node) (usage : ℕ) (before rest : List ℕ) → Some_step (lookup_steps (seen_node look depth digest n usage) before rest)
-unfolding seen_node lookup_steps
-of_node look depth digest (node.leaf path ref) usage before rest = (_, _, refl)
-of_node look depth digest (node.branch ref kids) usage before [] = (_, _, refl)
-of_node look depth digest (node.branch ref kids) usage before (x ∷ rest) = (_, _, refl)
-of_node look depth digest (node.extension path below) usage before rest = (_, _, refl)
-
-of_fitting : (look : Looks) (depth : ℕ) (digest : List ℕ) (n : Node) (usage : ℕ) (fits : Bool) (before rest : List ℕ) → Some_step (lookup_steps (if fits then seen_node look depth digest n usage else bad digest) before rest)
-unfolding lookup_steps
-of_fitting look depth digest n usage true before rest = of_node look depth digest n usage before rest
-of_fitting look depth digest n usage false before rest = (_, _, refl)
-
-of_record : (look : Looks) (depth : ℕ) (after_extension : Bool) (digest : List ℕ) (read : Result (Node × ℕ) RecordFault) (before rest : List ℕ) → Some_step (lookup_steps (seen_record look depth after_extension digest read) before rest)
-unfolding seen_record lookup_steps
-of_record look depth after_extension digest (Err e) before rest = (_, _, refl)
-of_record look depth after_extension digest (Ok r) before rest = of_fitting look depth digest r.0 r.1 (fits_at depth after_extension r.0) before rest
-
-of_text : (look : Looks) (depth : ℕ) (after_extension : Bool) (digest : List ℕ) (held : Option (List ℕ)) (before rest : List ℕ) → Some_step (lookup_steps (seen_text look depth after_extension digest held) before rest)
-unfolding seen_text lookup_steps
-of_text look depth after_extension digest None before rest = (_, _, refl)
-of_text look depth after_extension digest (Some text) before rest = of_record look depth after_extension digest (record_in text) before rest
-
-within : (n : ℕ) (table : Table) (depth : ℕ) (after_extension : Bool) (digest before rest : List ℕ) → Some_step (lookup_steps (seen_within n table depth after_extension digest) before rest)
-unfolding seen_within lookup_steps
-within zero table depth after_extension digest before rest = (_, _, refl)
-within (suc n) table depth after_extension digest before rest = of_text (seen_within n table) depth after_extension digest (get table digest) before rest
-
-first_step : (table : Table) (depth : ℕ) (after_extension : Bool) (digest before rest : List ℕ) → Some_step (lookup_steps (seen_at table depth after_extension digest) before rest)
-unfolding seen_at
-first_step table depth after_extension digest before rest = within (suc longest_path - depth) table depth after_extension digest before rest
-
 -- or a test fails there
 pub refused : (table : Table) (steps : List Step) (path : List ℕ) (digests : List (List ℕ)) (digest : List ℕ) (depth : ℕ) (after_extension : Bool) (error : ReadError) → Reaches table steps path digests digest depth after_extension → AnswersVisit table (seen_at table depth after_extension digest) digest depth after_extension (drop depth path) (Err error) → Finds steps path (digests ++ digest ∷ []) (Err error)
 unfolding lookup_steps
@@ -136,7 +102,7 @@ refused table steps path digests digest depth after_extension (Bad named) reache
   all = reached.steps_are ∙ ap (λ (seen : Seen). map step.node digests ++ lookup_steps seen (take depth path) (drop depth path)) answer.1 ∙ ap (λ (d : List ℕ). map step.node digests ++ no_node d ∷ []) (sym answer.0);
 }
 refused table steps path digests digest depth after_extension Fault reached answer =
-    let some = first_step table depth after_extension digest (take depth path) (drop depth path) in
+    let some = lookup-some (seen_at table depth after_extension digest) (take depth path) (drop depth path) (seen_at-there table depth after_extension digest) in
     record {
       before = digests;
       last = some.0;

@@ -18,7 +18,6 @@ use Rattle.visit_model.specs.Steps as step
 use Rattle.visit_model.specs.Visits as visits
 use Rattle.visit_model.specs.Visits.{Visits, Refusal, no_visits, refused, node_first, visits_of, top_visits}
 use Rattle.visit_model.proofs.ShownStates.{state_seen}
-use Rattle.visit_model.proofs.Tops.{top_visits-some, top_visits-empty}
 use Rattle.text_store.specs.Loading.{Digests}
 use Rattle.text_store.specs.Visiting.{HasLoaded, Remembers}
 use Rattle.text_store.proofs.Visiting.{HasLoaded-none, Remembers-none}
@@ -27,6 +26,8 @@ use Rattle.trie_read.specs.declared.errors.ReadError.TheVariants.{Missing, Bad, 
 use Rattle.trie_read.specs.Stores.{Follows, Visited, Interrupted, Leaves}
 use Rattle.trie_read.specs.Usages.{Stating, IsStated, AnswersUsage, AnswersTotal}
 use Rattle.trie_read.proofs.Seeing.{seen-none, seen-some}
+use Rattle.trie_read.proofs.There.{seen_at-there, top-some}
+use Rattle.trie_read.proofs.Looked.{visits-some}
 use Rattle.trie_read.proofs.OnTheWay.{root-seen}
 
 -- ---- what is seen at the root
@@ -108,3 +109,22 @@ usage-state table top result answer state holds is top_is =
     go (Err (Missing digest)) a u n = none_some _ _ n a
     go (Err (Bad digest)) a u n = none_some _ _ n a
     go (Err Fault) a u n = tt
+
+-- ---- what is left of the store
+
+pub leaves_none : {S : Type 0} (alike : S → S → Type 0) (loads faults : S → ℕ) (kept : S → Option Digests) (old : S) (visits : Visits) → ((a : S) → alike a a) → visits ≡ no_visits → HasLoaded alike loads faults old old (length visits.digests) × Remembers (kept old) (kept old) visits.digests
+leaves_none alike loads faults kept old visits itself none = subst (λ (v : Visits). HasLoaded alike loads faults old old (length v.digests) × Remembers (kept old) (kept old) v.digests) (sym none) (HasLoaded-none alike loads faults old (itself old), Remembers-none (kept old))
+
+-- one load, whose answer is the first and last
+pub leaves_node : {S X : Type 0} (alike : S → S → Type 0) (loads faults : S → ℕ) (kept : S → Option Digests) (old new : S) (visits : Visits) (top : List ℕ) (x : X) → visits ≡ node_first top no_visits → Visited {X = X} alike loads faults kept old new top (Ok x) → HasLoaded alike loads faults old new (length visits.digests) × Remembers (kept old) (kept new) visits.digests
+leaves_node alike loads faults kept old new visits top x one visited = subst (λ (v : Visits). HasLoaded alike loads faults old new (length v.digests) × Remembers (kept old) (kept new) v.digests) (sym one) (visited.loaded, visited.follows)
+
+pub leaves_refused : {S : Type 0} (alike : S → S → Type 0) (loads faults : S → ℕ) (old new : S) (visits : Visits) (top : List ℕ) (why : Refusal) → visits ≡ refused top why → HasLoaded alike loads faults old new 1 → HasLoaded alike loads faults old new (length visits.digests)
+leaves_refused alike loads faults old new visits top why one loaded = subst (λ (v : Visits). HasLoaded alike loads faults old new (length v.digests)) (sym one) loaded
+
+-- the root is visited at least
+pub top_visits-some : (table : Table) (top : List ℕ) → false ≡ pointwise nat_eq top zero_digest → 1 ≤ length (top_visits table top).digests
+top_visits-some table top nonzero =
+    let steps : top_steps (seen table top) ≡ top_steps (seen_at table 0 false top) = ap top_steps (root-seen table top nonzero) in
+    let some = top-some (seen_at table 0 false top) (seen_at-there table 0 false top) in
+    subst (λ (l : List Step). 1 ≤ length (visits_of table 1 l).digests) (sym (steps ∙ some.2)) (visits-some table 0 some.0 some.1)
