@@ -8,7 +8,7 @@ mod unpacking;
 
 pub use nibbles::Nibbles;
 pub use pack_error::PackError;
-pub use packing::{pack, packed_len, put_packed};
+pub use packing::{join_nibbles, pack, packed_len, put_packed};
 pub use unpacking::Packed;
 
 #[cfg(test)]

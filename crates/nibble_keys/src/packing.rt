@@ -1,5 +1,6 @@
 ghost use Rattle.std.specs.Prelude.{◌≡◌, ◌+◌, ◌*◌, ◌/◌, ◌%◌, ◌<◌, ◌≤◌, ◌++◌, ℕ, Bool, List, length, IfOk, OnOk};
 ghost use Rattle.byte_model.specs.Nibbles.{AreNibbles};
+ghost use Rattle.byte_model.specs.Nibbles as keys;
 ghost use Rattle.byte_model.specs.PackedPath.{packed, two_to_a_byte, longest_path};
 
 use base_core::{Text, Writer};
@@ -41,6 +42,17 @@ pub fn put_packed(writer: &mut Writer, nibbles: &[u8], leaf: bool) -> Result<(),
         writer.put_u8(flags + ODD_FLAG + nibbles[0])?;
         put_pairs(writer, &nibbles[1..])
     }
+}
+
+/// The key that has these nibbles, one to a byte.
+pub fn join_nibbles(alloc: Global, nibbles: &[u8]) -> Result<Text, AllocError>
+    requires nibbles { AreNibbles nibbles.now }
+    requires even { length nibbles.now % 2 ≡ 0 }
+    ensures { IfOk result (λ key. keys.nibbles key ≡ nibbles.now) }
+{
+    let mut writer = Writer::with_capacity(alloc, nibbles.len() / 2)?;
+    put_pairs(&mut writer, nibbles)?;
+    Ok(writer.into_text())
 }
 
 /// Writes two nibbles to a byte.

@@ -16,7 +16,7 @@ two_to_a_byte-nibbles (byte ∷ bytes) =
     let whole : 16 * (byte / 16) + byte % 16 ≡ byte = omega arith in
     ap₂ (λ (n : ℕ) (ns : List ℕ). n ∷ ns) whole (two_to_a_byte-nibbles bytes)
 
-nibbles-two_to_a_byte : (path : List ℕ) → AreNibbles path → length path % 2 ≡ 0 → nibbles (two_to_a_byte path) ≡ path
+pub nibbles-two_to_a_byte : (path : List ℕ) → AreNibbles path → length path % 2 ≡ 0 → nibbles (two_to_a_byte path) ≡ path
 unfolding two_to_a_byte nibbles
 nibbles-two_to_a_byte [] small even = refl
 nibbles-two_to_a_byte (last ∷ []) small even = absurd (omega arith)

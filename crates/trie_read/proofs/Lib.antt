@@ -7,3 +7,7 @@ pub mod OnTheWay
 pub mod Looked
 pub mod States
 pub mod Topmost
+pub mod Bounded
+pub mod Stacks
+pub mod Entering
+pub mod Taking

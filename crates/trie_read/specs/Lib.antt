@@ -1,3 +1,4 @@
 pub mod Lookups
 pub mod Stores
 pub mod Usages
+pub mod Walks

@@ -7,6 +7,7 @@ mod finding;
 mod lookup;
 mod usage;
 mod visit;
+mod walk;
 
 pub use errors::{ListError, ReadError};
 pub use finding::get;

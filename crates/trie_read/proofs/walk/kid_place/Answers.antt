@@ -1,0 +1,13 @@
+use Rattle.std.proofs.Common.{◌≡◌, ◌∙◌, ap}
+use Rattle.node_codec.specs.Children.{kids_seen}
+use Rattle.trie_read.proofs.Stacks.{kid-none, kid-below, kid-place}
+use Rattle.trie_read.proofs.walk.kid_place.Goals as goal
+
+pub returns-in-None : goal.returns-in-None
+returns-in-None c = kid-none (kids_seen c.args.kids.now) c.args.nibble c.args.bound.now c.in-None.ensures
+
+pub returns-in-None-child_bound : goal.returns-in-None-child_bound
+returns-in-None-child_bound c = kid-below (kids_seen c.args.kids.now) c.args.nibble c.args.bound.now c.in-None-child_bound.ensures
+
+pub returns-in-Some-child_bound : goal.returns-in-Some-child_bound
+returns-in-Some-child_bound c = kid-place (kids_seen c.args.kids.now) c.args.nibble c.args.depth c.args.bound.now c.in-Some.digest c.in-Some-child_bound.bounded c.requires c.in-Some.ensures c.in-Some-child_bound.ensures
