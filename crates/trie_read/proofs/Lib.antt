@@ -11,3 +11,4 @@ pub mod Bounded
 pub mod Stacks
 pub mod Entering
 pub mod Taking
+pub mod Placing

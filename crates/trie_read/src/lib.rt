@@ -5,6 +5,7 @@
 mod errors;
 mod finding;
 mod lookup;
+mod opening;
 mod usage;
 mod visit;
 mod walk;
