@@ -1,9 +1,9 @@
 -- What is left of a bound behind a front.
-use Rattle.std.proofs.Common.{◌≡◌, ◌≢◌, ℕ, zero, suc, ◌+◌, ◌<◌, ◌≤◌, Bool, true, false, List, [], ◌∷◌, ◌++◌, length, take, drop, get_or, Option, None, Some, refl, sym, ap, ap₂, ◌∙◌, subst, arith, length-append}
-use Rattle.std.specs.Prelude.{◌==◌, nat_lt, if◌then◌else◌}
+use Rattle.std.proofs.Common.{◌≡◌, ◌≢◌, ℕ, suc, ◌<◌, ◌≤◌, Bool, true, false, List, [], ◌∷◌, ◌++◌, length, take, drop, get_or, None, Some, refl, sym, ap, ap₂, ◌∙◌, arith}
+use Rattle.std.specs.Prelude.{◌==◌}
 use Rattle.std.proofs.Math.Seq.{drop-cons}
 use Rattle.std.proofs.lemmas.Bool.{lt-ltb, le-ltb, eq-eqb, eqb-true}
-use Rattle.std.proofs.lemmas.List.{take_all, take-append-drop, drop_at}
+use Rattle.std.proofs.lemmas.List.{take_all, take-append-drop}
 use Rattle.trie_model.proofs.Rests.{same_nibble}
 use Rattle.visit_model.specs.Steps.{bound_behind}
 use Rattle.nibble_keys.specs.CommonLength.{IsCommonLength}

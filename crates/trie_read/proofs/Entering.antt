@@ -1,27 +1,26 @@
 -- What entering a node leaves to be visited.
-use Rattle.std.proofs.Common.{◌≡◌, ◌≢◌, ◌⊎◌, IfSome, OnOk, Result, Ok, Err, ℕ, zero, suc, ◌+◌, ◌-◌, ◌<◌, ◌≤◌, ◌%◌, Bool, true, false, List, [], ◌∷◌, ◌++◌, length, take, drop, Option, None, Some, refl, sym, ap, ap₂, ◌∙◌, subst, arith, append_assoc, append-nil, length-append, inl, inr}
-use Rattle.std.specs.Prelude.{if◌then◌else◌, nat_lt, nat_le, ◌==◌, not, ◌&&◌}
+use Rattle.std.proofs.Common.{◌≡◌, ◌≢◌, ◌⊎◌, IfSome, OnOk, Result, Ok, Err, ℕ, ◌+◌, ◌-◌, ◌<◌, ◌≤◌, ◌%◌, Bool, true, false, List, [], ◌∷◌, ◌++◌, length, take, drop, Option, None, Some, refl, sym, ap, ap₂, ◌∙◌, subst, arith, append_assoc, append-nil, length-append, inl, inr}
+use Rattle.std.specs.Prelude.{if◌then◌else◌, nat_lt, nat_le, not, ◌&&◌}
 use Rattle.std.specs.Option.{option_map}
-use Rattle.std.proofs.lemmas.Bool.{and_parts, eqb-true, lt-ltb, ltb-true, leb-true}
+use Rattle.std.proofs.lemmas.Bool.{and_parts, eqb-true, ltb-true, leb-true}
 use Rattle.std.proofs.lemmas.List.{take_all, take_at, drop-drop, length-drop}
 use Rattle.byte_model.specs.Below.{joined_below}
 use Rattle.byte_model.specs.Nibbles.{AreNibbles}
 use Rattle.byte_model.specs.PackedPath.{longest_path}
 use Rattle.byte_model.specs.Node as node
 use Rattle.byte_model.specs.Node.{Node}
-use Rattle.record_model.specs.Fits.{fits_at, is_whole, has_place}
+use Rattle.record_model.specs.Fits.{is_whole, has_place}
 use Rattle.trie_model.specs.Root.{Table}
-use Rattle.visit_model.specs.Seen.{Looks, seen_at, seen_node}
+use Rattle.visit_model.specs.Seen.{seen_at, seen_node}
 use Rattle.visit_model.specs.Steps.{Step, value_steps, reached_steps, behind, bound_behind, listing_steps}
 use Rattle.visit_model.specs.Steps as step
-use Rattle.visit_model.specs.Bounds.{at_most_one}
 use Rattle.visit_model.proofs.SeenBounds.{place_fits, branch_room, extension_room}
 use Rattle.base_core.specs.declared.hash.Digest.{Digest}
 use Rattle.node_codec.specs.declared.value_ref.ValueRef as codec
 use Rattle.node_codec.specs.Shown.{value_of}
 use Rattle.trie_read.specs.declared.walk.Place.{Place}
 use Rattle.trie_read.specs.declared.walk.Walk.{Walk}
-use Rattle.trie_read.specs.Walks.{steps_at, steps_of, IsPlace, Stacked, IsWalk, IsBound, FitsSomewhere, kid_steps, Enters}
+use Rattle.trie_read.specs.Walks.{steps_at, steps_of, Stacked, IsWalk, IsBound, FitsSomewhere, kid_steps, Enters}
 use Rattle.trie_read.proofs.Stacks.{steps_of-push, steps_of-same, Stacked-push, Stacked-widen}
 
 -- a front agrees with what is longer
@@ -63,10 +62,10 @@ leaf-entered old new path bound ref fits is above path_is small pending_is =
     let short : length before + length path ≤ longest_path = leb-true _ _ both.1 in
     record {
       steps = λ table digest from usage at.
-        ap (λ (o : Option (List ℕ)). (step.node digest ∷ reached_steps (before ++ path) (Some (value_of ref)) o) ++ steps_of table from before old.pending.items) above
-        ∙ ap (λ (l : List Step). step.node digest ∷ value_steps (before ++ path) (Some (value_of ref)) ++ l)
+          ap (λ (o : Option (List ℕ)). (step.node digest ∷ reached_steps (before ++ path) (Some (value_of ref)) o) ++ steps_of table from before old.pending.items) above
+          ∙ ap (λ (l : List Step). step.node digest ∷ value_steps (before ++ path) (Some (value_of ref)) ++ l)
           (steps_of-same table from before (before ++ path) (length before) old.pending.items is.stacked (front_agrees before path))
-        ∙ ap₂ (λ (p : List ℕ) (places : List Place). step.node digest ∷ value_steps p (Some (value_of ref)) ++ steps_of table from p places) (sym path_is) (sym pending_is);
+          ∙ ap₂ (λ (p : List ℕ) (places : List Place). step.node digest ∷ value_steps p (Some (value_of ref)) ++ steps_of table from p places) (sym path_is) (sym pending_is);
       walk = record {
         small = small;
         stacked = subst (Stacked (length new.path.items)) (sym pending_is) (Stacked-widen (length before) (length new.path.items) old.pending.items (omega arith) is.stacked);
@@ -148,11 +147,11 @@ extension-entered old new path bound rest child bounded fits is reached left pat
     let room = extension_room (length before) fits.0 path child.0 (place_fits (length before) fits.0 (node.extension path child.0) fits.1) in
     record {
       steps = λ table digest from usage at.
-        let bound_is : rest ≡ (if bounded then drop (length new.path.items + 0) from else []) = child_bound path bound from (length before) bounded rest reached left at ∙ ap (λ (n : ℕ). if bounded then drop n from else []) depth in
-        let below : listing_steps (seen_at table (length before + length path) true child.0) (before ++ path) rest ≡ steps_at table from new.path.items place = λ i. listing_steps (seen_at table (depth i) true child.0) (front i) (bound_is i) in
-        ap (λ (o : Option (List ℕ)). (step.node digest ∷ behind (listing_steps (seen_at table (length before + length path) true child.0) (before ++ path)) o) ++ steps_of table from before old.pending.items) reached
-        ∙ ap₂ (λ (k l : List Step). step.node digest ∷ k ++ l) below (steps_of-same table from before (before ++ path) (length before) old.pending.items is.stacked (front_agrees before path) ∙ ap (λ (p : List ℕ). steps_of table from p old.pending.items) (sym path_is))
-        ∙ ap (λ (l : List Step). step.node digest ∷ l) (sym (steps_of-push table from new.path.items old.pending.items place) ∙ ap (steps_of table from new.path.items) (sym pending_is));
+          let bound_is : rest ≡ (if bounded then drop (length new.path.items + 0) from else []) = child_bound path bound from (length before) bounded rest reached left at ∙ ap (λ (n : ℕ). if bounded then drop n from else []) depth in
+          let below : listing_steps (seen_at table (length before + length path) true child.0) (before ++ path) rest ≡ steps_at table from new.path.items place = λ i. listing_steps (seen_at table (depth i) true child.0) (front i) (bound_is i) in
+          ap (λ (o : Option (List ℕ)). (step.node digest ∷ behind (listing_steps (seen_at table (length before + length path) true child.0) (before ++ path)) o) ++ steps_of table from before old.pending.items) reached
+          ∙ ap₂ (λ (k l : List Step). step.node digest ∷ k ++ l) below (steps_of-same table from before (before ++ path) (length before) old.pending.items is.stacked (front_agrees before path) ∙ ap (λ (p : List ℕ). steps_of table from p old.pending.items) (sym path_is))
+          ∙ ap (λ (l : List Step). step.node digest ∷ l) (sym (steps_of-push table from new.path.items old.pending.items place) ∙ ap (steps_of table from new.path.items) (sym pending_is));
       walk = record {
         small = small;
         stacked = subst (Stacked (length new.path.items)) (sym pending_is) (Stacked-push (length new.path.items) old.pending.items place (Stacked-widen (length before) (length new.path.items) old.pending.items (omega arith) is.stacked) (record { front = omega arith; deep = omega arith; small = tt }) refl);

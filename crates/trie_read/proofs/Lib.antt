@@ -12,3 +12,5 @@ pub mod Stacks
 pub mod Entering
 pub mod Taking
 pub mod Placing
+pub mod Collecting
+pub mod Listed

@@ -1,17 +1,14 @@
 -- The visits of a lookup, by what finding the value's name and visiting the value have answered.
-use Rattle.std.proofs.Common.{◌≡◌, ◌≢◌, ℕ, zero, suc, ◌+◌, ◌<◌, ◌≤◌, Bool, true, false, List, [], ◌∷◌, ◌++◌, length, map, Option, None, Some, Result, Ok, Err, refl, sym, ap, ap₂, ◌∙◌, subst, arith, append-nil, length-append}
-use Rattle.std.specs.Prelude.{IsSomeAnd, nat_eq, if◌then◌else◌, ◌==◌}
+use Rattle.std.proofs.Common.{◌≡◌, ◌≢◌, ℕ, suc, ◌+◌, ◌<◌, ◌≤◌, Bool, true, false, List, [], ◌∷◌, ◌++◌, length, map, Option, None, Some, Result, Ok, Err, refl, sym, ap, ◌∙◌, subst, arith, append-nil, length-append}
+use Rattle.std.specs.Prelude.{IsSomeAnd, if◌then◌else◌, ◌==◌}
 use Rattle.std.specs.Borrow.{Bor}
-use Rattle.std.specs.Option.{option_map, option_copied}
 use Rattle.std.specs.FinMap.{get}
 use Rattle.std.proofs.lemmas.Bool.{eq-eqb, eqb-true}
 use Rattle.trie_model.specs.Root.{Table}
-use Rattle.trie_model.specs.State.{Row}
 use Rattle.byte_model.specs.Node.{ValueRef}
 use Rattle.visit_model.specs.Steps.{Step, no_text, no_node, value}
 use Rattle.visit_model.specs.Steps as step
-use Rattle.visit_model.specs.Visits.{Visits, Refusal, missing, bad, no_visits, refused, node_first, value_first, value_visit, visits_of}
-use Rattle.visit_model.specs.Bounds.{at_most_one}
+use Rattle.visit_model.specs.Visits.{Visits, missing, bad, no_visits, refused, node_first, value_first, value_visit, visits_of}
 use Rattle.base_core.specs.Faults.{Rose}
 use Rattle.node_codec.specs.declared.value_ref.ValueRef as codec
 use Rattle.node_codec.specs.Shown.{value_of}
@@ -21,7 +18,7 @@ use Rattle.text_store.proofs.Visiting.{HasLoaded-then, Remembers-then}
 use Rattle.trie_read.specs.declared.errors.ReadError.{ReadError}
 use Rattle.trie_read.specs.declared.errors.ReadError.TheVariants.{Missing, Bad, Fault}
 use Rattle.trie_read.specs.Lookups.{EndsWith, Goes, Finds, Found, AnswersValue, AnswersLookup}
-use Rattle.trie_read.specs.Stores.{Follows, Visited, Interrupted, Leaves}
+use Rattle.trie_read.specs.Stores.{Visited, Leaves}
 
 -- nodes that were visited before
 abbrev pub after_nodes : List (List ℕ) → Visits → Visits
@@ -99,7 +96,7 @@ pub none_at_the_end : {S : Type 0} (alike : S → S → Type 0) (loads faults : 
 unfolding visits_of
 none_at_the_end alike loads faults kept old new table steps path f =
     let visits : visits_of table 1 steps ≡ record { digests = f.digests; values = []; refusal = None } =
-      ap (visits_of table 1) (f.finds ∙ sym (append-nil (map step.node f.digests))) ∙ visits-nodes table 0 f.digests [] ∙ ap (λ (ds : List (List ℕ)). record { digests = ds; values = []; refusal = None }) (append-nil f.digests) in
+    ap (visits_of table 1) (f.finds ∙ sym (append-nil (map step.node f.digests))) ∙ visits-nodes table 0 f.digests [] ∙ ap (λ (ds : List (List ℕ)). record { digests = ds; values = []; refusal = None }) (append-nil f.digests) in
     record {
       leaves = subst (λ (v : Visits). HasLoaded alike loads faults old new (length v.digests) × Remembers (kept old) (kept new) v.digests) (sym visits) (f.visited.loaded, f.visited.follows);
       answers = (ap (λ (v : Visits). v.values) visits, ap (λ (v : Visits). v.refusal) visits);
@@ -132,10 +129,10 @@ loaded_all alike loads faults kept old mid new digests digest result onward befo
 pub value_at_the_end : {S : Type 0} (alike : S → S → Type 0) (loads faults : S → ℕ) (kept : S → Option Digests) (old mid new : S) (table : Table) (steps : List Step) (path : List ℕ) (ref : codec.ValueRef) (text : Bor (List ℕ)) → ((a b c : S) → alike a b → alike b c → alike a c) → Found alike loads faults kept old mid steps path (Ok (Some ref)) → AnswersValue table ref (Ok text) → Visited {X = Bor (List ℕ)} alike loads faults kept mid new ref.digest.0 (Ok text) → Answered alike loads faults kept old new (visits_of table 1 steps) path (Ok (Some text))
 value_at_the_end alike loads faults kept old mid new table steps path ref text onward f answer more =
     let visits : visits_of table 1 steps ≡ record { digests = f.digests ++ ref.digest.0 ∷ []; values = (path, text.now) ∷ []; refusal = None } =
-      value-last table steps path f.digests ref (Some text.now) f.finds answer.0 ∙ ap (after_nodes f.digests) (found-value path text.now ref answer.1) in
+    value-last table steps path f.digests ref (Some text.now) f.finds answer.0 ∙ ap (after_nodes f.digests) (found-value path text.now ref answer.1) in
     record {
       leaves = subst (λ (v : Visits). HasLoaded alike loads faults old new (length v.digests) × Remembers (kept old) (kept new) v.digests) (sym visits)
-        (loaded_all alike loads faults kept old mid new f.digests ref.digest.0 (Ok text) onward f.visited.loaded more, Remembers-then (kept old) (kept mid) (kept new) f.digests (ref.digest.0 ∷ []) f.visited.follows more.follows);
+          (loaded_all alike loads faults kept old mid new f.digests ref.digest.0 (Ok text) onward f.visited.loaded more, Remembers-then (kept old) (kept mid) (kept new) f.digests (ref.digest.0 ∷ []) f.visited.follows more.follows);
       answers = (ap (λ (v : Visits). v.values) visits, ap (λ (v : Visits). v.refusal) visits);
     }
 
@@ -156,7 +153,7 @@ refused_at_the_end alike loads faults kept old mid new table steps path ref (Bad
     go None e other = absurd other
     go (Some text) e other =
         let visits : visits_of table 1 steps ≡ record { digests = f.digests ++ ref.digest.0 ∷ []; values = []; refusal = Some (bad ref.digest.0) } =
-          value-last table steps path f.digests ref (Some text) f.finds e ∙ ap (after_nodes f.digests) (other-value path text ref other) in
+        value-last table steps path f.digests ref (Some text) f.finds e ∙ ap (after_nodes f.digests) (other-value path text ref other) in
         record {
           leaves = subst (λ (v : Visits). HasLoaded alike loads faults old new (length v.digests)) (sym visits) (loaded_all {X = Bor (List ℕ)} alike loads faults kept old mid new f.digests ref.digest.0 (Err (Bad named)) onward f.visited.loaded more);
           answers = ap (λ (v : Visits). v.refusal) visits ∙ ap (λ d. Some (bad d.0)) (sym answer.0);

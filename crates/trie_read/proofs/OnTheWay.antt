@@ -1,19 +1,12 @@
 -- How far the lookup of a key has come, and what each visit makes of that.
-use Rattle.std.proofs.Common.{◌≡◌, ℕ, zero, suc, ◌+◌, ◌-◌, ◌<◌, ◌≤◌, Bool, true, false, List, [], ◌∷◌, ◌++◌, length, map, take, drop, Option, None, Some, Result, Ok, Err, refl, sym, ap, ap₂, ◌∙◌, subst, arith, append_assoc, append-nil, length-append}
-use Rattle.std.specs.Option.{option_map}
+use Rattle.std.proofs.Common.{◌≡◌, ℕ, ◌+◌, ◌<◌, ◌≤◌, Bool, true, false, List, [], ◌∷◌, ◌++◌, length, map, take, drop, Option, None, Some, Result, Ok, Err, refl, sym, ap, ap₂, ◌∙◌, subst, arith, append_assoc, append-nil, length-append}
 use Rattle.std.proofs.lemmas.List.{take-append-drop, take_at, drop_at, length-take-le, map-append}
 use Rattle.std.specs.Prelude.{if◌then◌else◌, nat_eq}
 use Rattle.std.specs.Cmp.Lexicographic.{pointwise}
-use Rattle.std.specs.FinMap.{get}
-use Rattle.byte_model.specs.PackedPath.{longest_path}
-use Rattle.byte_model.specs.Node as node
-use Rattle.byte_model.specs.Node.{Node}
-use Rattle.record_model.specs.Records.{RecordFault, record_in}
-use Rattle.record_model.specs.Fits.{fits_at}
 use Rattle.trie_model.specs.Root.{Table, zero_digest}
 use Rattle.base_core.specs.Faults.{Rose}
 use Rattle.base_core.specs.declared.hash.Digest.{Digest}
-use Rattle.visit_model.specs.Seen.{Seen, Looks, nothing, missing, bad, seen, seen_at, seen_node, seen_record, seen_text, seen_within}
+use Rattle.visit_model.specs.Seen.{Seen, nothing, seen, seen_at, seen_node}
 use Rattle.visit_model.specs.Steps.{Step, no_text, no_node, value, value_steps, lookup_steps}
 use Rattle.visit_model.specs.Steps as step
 use Rattle.node_codec.specs.declared.value_ref.ValueRef as codec
@@ -25,8 +18,8 @@ use Rattle.trie_read.specs.declared.errors.ReadError.{ReadError}
 use Rattle.trie_read.specs.declared.errors.ReadError.TheVariants.{Missing, Bad, Fault}
 use Rattle.trie_read.specs.declared.lookup.Next.{Next}
 use Rattle.trie_read.specs.declared.lookup.Next.TheVariants.{End, Child}
-use Rattle.trie_read.specs.Lookups.{IsNext, AnswersVisit, EndsWith, Goes, Finds, Found, leads_seen, leads, ends, child}
-use Rattle.trie_read.specs.Stores.{Follows, Visited, VisitedAll}
+use Rattle.trie_read.specs.Lookups.{IsNext, AnswersVisit, Finds, Found, leads_seen, child}
+use Rattle.trie_read.specs.Stores.{Follows, Visited}
 use Rattle.trie_read.proofs.There.{seen_at-there, lookup-some}
 use Rattle.trie_read.proofs.Following.{Leading, GoesOn, leading}
 
@@ -77,7 +70,7 @@ went_on table steps path digests digest depth after_extension next below deeper 
     let on : GoesOn (seen_at table) depth digest n.usage (take depth path) (drop depth path) n.node below deeper extended = subst (Leading (seen_at table) depth digest n.usage (take depth path) (drop depth path) n.node) is (lead table path digest depth after_extension next n) in
     let parts = parts_of path on.front on.more depth deeper reached.deep on.parts on.depth_is in
     let all : steps ≡ map step.node (digests ++ digest ∷ []) ++ lookup_steps (seen_at table deeper extended below) (take depth path ++ on.front) on.more =
-      reached.steps_are ∙ ap (λ (seen : Seen). map step.node digests ++ lookup_steps seen (take depth path) (drop depth path)) n.seen ∙ ap (λ (l : List Step). map step.node digests ++ l) on.steps ∙ nodes-more digests digest _ in
+    reached.steps_are ∙ ap (λ (seen : Seen). map step.node digests ++ lookup_steps seen (take depth path) (drop depth path)) n.seen ∙ ap (λ (l : List Step). map step.node digests ++ l) on.steps ∙ nodes-more digests digest _ in
     let some = on.some in
     let depth_is = on.depth_is in
     record {
@@ -171,10 +164,12 @@ found_refused alike loads faults kept old mid new table other steps path digest 
 
 pub found_deeper : {S : Type 0} (alike : S → S → Type 0) (loads faults : S → ℕ) (kept : S → Option Digests) (old mid new : S) (table other : Table) (steps : List Step) (path : List ℕ) (digest : List ℕ) (depth : ℕ) (after_extension : Bool) (below : Digest) (deeper : ℕ) (extended : Bool) → ((a b c : S) → alike a b → alike b c → alike a c) → other ≡ table → IsAt alike loads faults kept old mid table steps path digest depth after_extension → IsNext other (seen_at other depth after_extension digest) digest depth after_extension (drop depth path) (Child below deeper extended) → Visited {X = Next} alike loads faults kept mid new digest (Ok (Child below deeper extended)) → IsAt alike loads faults kept old new table steps path below.0 deeper extended × (depth < deeper)
 found_deeper alike loads faults kept old mid new table other steps path digest depth after_extension below deeper extended onward same at next more =
-    let on = went_on table steps path at.digests digest depth after_extension (Child below deeper extended) below.0 deeper extended at.reaches (subst (λ (t : Table). IsNext t (seen_at t depth after_extension digest) digest depth after_extension (drop depth path) (Child below deeper extended)) same next) refl in
-    (record {
-      digests = at.digests ++ digest ∷ [];
-      reaches = on.reaches;
-      loaded = visited_more alike loads faults kept old mid new at.digests digest (Ok (Child below deeper extended)) onward at.loaded more;
-      remembers = Remembers-then (kept old) (kept mid) (kept new) at.digests (digest ∷ []) at.remembers more.follows;
-    }, on.below)
+    let on = went_on table steps path at.digests digest depth after_extension (Child below deeper extended) below.0 deeper extended at.reaches (subst (λ (t : Table). IsNext t (seen_at t depth after_extension digest) digest depth after_extension (drop depth path) (Child below deeper extended)) same next) refl in (
+      record {
+        digests = at.digests ++ digest ∷ [];
+        reaches = on.reaches;
+        loaded = visited_more alike loads faults kept old mid new at.digests digest (Ok (Child below deeper extended)) onward at.loaded more;
+        remembers = Remembers-then (kept old) (kept mid) (kept new) at.digests (digest ∷ []) at.remembers more.follows;
+      },
+      on.below,
+    )

@@ -1,21 +1,18 @@
 -- Going to a place, and what was visited there.
-use Rattle.std.proofs.Common.{◌≡◌, ℕ, zero, suc, ◌+◌, ◌<◌, ◌≤◌, Bool, true, false, List, [], ◌∷◌, ◌++◌, length, take, drop, Option, None, Some, Result, Ok, Err, refl, sym, ap, ap₂, ◌∙◌, subst, arith, length-append, inl, inr}
+use Rattle.std.proofs.Common.{◌≡◌, ℕ, zero, suc, ◌+◌, ◌≤◌, Bool, true, false, List, [], ◌∷◌, ◌++◌, length, take, drop, Option, None, Some, refl, sym, ap, ap₂, ◌∙◌, subst, arith, length-append, inl, inr}
 use Rattle.std.specs.Prelude.{if◌then◌else◌}
-use Rattle.std.specs.Option.{option_map}
 use Rattle.std.specs.FinMap.{get}
 use Rattle.std.proofs.lemmas.List.{length-take-le, take_at}
 use Rattle.byte_model.specs.Nibbles.{AreNibbles}
 use Rattle.byte_model.specs.PackedPath.{longest_path}
 use Rattle.trie_model.specs.Root.{Table}
-use Rattle.visit_model.specs.Seen.{Seen, missing, bad, seen_at, seen_node, seen_text, seen_record}
-use Rattle.visit_model.specs.Steps.{Step, no_text, no_node, value_steps, listing_steps}
-use Rattle.visit_model.specs.Steps as step
+use Rattle.visit_model.specs.Seen.{Seen, seen_at, seen_node, seen_text, seen_record}
+use Rattle.visit_model.specs.Steps.{Step, no_text, no_node, listing_steps}
 use Rattle.visit_model.specs.Bounds.{at_most_one}
 use Rattle.node_codec.specs.declared.value_ref.ValueRef as codec
-use Rattle.node_codec.specs.Shown.{value_of}
 use Rattle.trie_read.specs.declared.walk.Place.{Place}
 use Rattle.trie_read.specs.declared.walk.Walk.{Walk}
-use Rattle.trie_read.specs.Walks.{place_before, place_depth, place_bound, steps_at, steps_of, IsPlace, Stacked, IsWalk, IsBound, Enters}
+use Rattle.trie_read.specs.Walks.{place_before, place_depth, place_bound, steps_at, steps_of, IsPlace, Stacked, IsWalk, IsBound}
 use Rattle.trie_read.specs.Listings.{Opened, IsOpened, Passed}
 use Rattle.trie_read.proofs.Seeing.{seen-none, seen-some}
 use Rattle.trie_read.proofs.Stacks.{steps_of-same, Stacked-widen}
@@ -68,14 +65,14 @@ unfolding seen_text seen_record
 place-passed table from text old mid new place found is stacked path_is pending_is held opened =
     let depth : length mid.path.items ≡ place_depth place = ap length path_is ∙ before-depth old.path.items place is in
     let seen : seen_at table (place_depth place) place.after_extension place.digest.0 ≡ seen_node (seen_at table) (place_depth place) place.digest.0 opened.node opened.usage =
-      seen-some table (place_depth place) place.after_extension place.digest.0 text is.deep held ∙ rw (opened.read, opened.fits) refl in
+    seen-some table (place_depth place) place.after_extension place.digest.0 text is.deep held ∙ rw (opened.read, opened.fits) refl in
     let bound = subst (λ (n : ℕ). IsBound from n (place_bound from place)) (sym depth) (at_bound from place) in
     record {
       steps =
-        ap₂ (λ (s : Seen) (l : List Step). listing_steps s (place_before old.path.items place) (place_bound from place) ++ l) seen
+          ap₂ (λ (s : Seen) (l : List Step). listing_steps s (place_before old.path.items place) (place_bound from place) ++ l) seen
           (steps_of-same table from old.path.items (place_before old.path.items place) place.front old.pending.items stacked (before-agrees old.path.items place is))
-        ∙ (λ i. listing_steps (seen_node (seen_at table) (sym depth i) place.digest.0 opened.node opened.usage) (sym path_is i) (place_bound from place) ++ steps_of table from (sym path_is i) (sym pending_is i))
-        ∙ opened.enters.steps table place.digest.0 from opened.usage bound;
+          ∙ (λ i. listing_steps (seen_node (seen_at table) (sym depth i) place.digest.0 opened.node opened.usage) (sym path_is i) (place_bound from place) ++ steps_of table from (sym path_is i) (sym pending_is i))
+          ∙ opened.enters.steps table place.digest.0 from opened.usage bound;
       walk = opened.enters.walk;
       whole = opened.enters.whole;
     }

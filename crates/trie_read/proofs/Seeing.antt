@@ -1,5 +1,5 @@
 -- What is seen at a place, by the text that is held there.
-use Rattle.std.proofs.Common.{◌≡◌, ℕ, ◌*◌, ◌≤◌, Bool, true, List, length, drop, Option, None, Some, Result, Ok, Err, refl, sym, ap, ◌∙◌, arith}
+use Rattle.std.proofs.Common.{◌≡◌, ℕ, ◌*◌, ◌≤◌, Bool, List, length, None, Some, refl, sym, ap, ◌∙◌, arith}
 use Rattle.std.specs.FinMap.{get}
 use Rattle.byte_model.specs.Nibbles.{nibbles}
 use Rattle.byte_model.specs.PackedPath.{longest_path}

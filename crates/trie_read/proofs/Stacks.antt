@@ -1,18 +1,15 @@
 -- Places that are still to be visited, one upon another.
-use Rattle.std.proofs.Common.{◌≡◌, ◌≢◌, ℕ, zero, suc, ◌+◌, ◌-◌, ◌<◌, ◌≤◌, Bool, true, false, List, [], ◌∷◌, ◌++◌, length, take, drop, Option, None, Some, refl, sym, ap, ap₂, ◌∙◌, subst, arith, append_assoc, append-nil, inl, inr}
+use Rattle.std.proofs.Common.{◌≡◌, ℕ, ◌+◌, ◌<◌, ◌≤◌, Bool, true, false, List, [], ◌∷◌, ◌++◌, length, take, drop, Option, None, Some, refl, sym, ap, ap₂, ◌∙◌, arith, append_assoc, append-nil, inl, inr}
 use Rattle.std.specs.Prelude.{if◌then◌else◌}
 use Rattle.std.specs.List.{AllByRecursion}
 use Rattle.std.proofs.lemmas.List.{take_all, take-take, drop-drop}
-use Rattle.byte_model.specs.Below.{joined_below}
-use Rattle.byte_model.specs.Nibbles.{AreNibbles}
-use Rattle.byte_model.specs.PackedPath.{longest_path}
 use Rattle.trie_model.specs.Root.{Table}
 use Rattle.visit_model.specs.Seen.{seen_at, seen_kid}
 use Rattle.visit_model.specs.Steps.{Step, behind, bound_behind, listing_steps}
 use Rattle.visit_model.specs.Bounds.{at_most_one}
 use Rattle.base_core.specs.declared.hash.Digest.{Digest}
 use Rattle.trie_read.specs.declared.walk.Place.{Place}
-use Rattle.trie_read.specs.Walks.{place_before, place_depth, place_bound, steps_at, steps_of, IsPlace, Stacked, IsChildBound, IsBound, kid_steps, KidPlace}
+use Rattle.trie_read.specs.Walks.{place_depth, place_bound, steps_at, steps_of, IsPlace, Stacked, IsChildBound, IsBound, kid_steps, KidPlace}
 
 -- ---- the steps of a stack
 
@@ -32,7 +29,7 @@ unfolding steps_of
 steps_of-same table from path other m [] stacked same = refl
 steps_of-same table from path other m (place ∷ places) stacked same =
     ap₂ (λ (k l : List Step). k ++ l) (steps_of-same table from path other m places stacked.2 same)
-      (ap (λ (front : List ℕ). listing_steps (seen_at table (place_depth place) place.after_extension place.digest.0) (front ++ at_most_one place.nibble) (place_bound from place)) (front_same m place.front path other stacked.0.front same))
+    (ap (λ (front : List ℕ). listing_steps (seen_at table (place_depth place) place.after_extension place.digest.0) (front ++ at_most_one place.nibble) (place_bound from place)) (front_same m place.front path other stacked.0.front same))
 
 -- ---- putting a place upon others, and taking it off
 
@@ -96,6 +93,6 @@ kid-place kids x depth bound digest bounded small there is = record {
   depth_is = refl;
   small = (small, tt);
   steps = λ table from path long at.
-    ap₂ (λ (o p : Option (List ℕ)). behind (listing_steps (seen_kid (seen_at table (length path + 1) false) o) (path ++ x ∷ [])) p) (sym there) (bound_left x depth bound from bounded is at)
-    ∙ ap₂ (λ (n : ℕ) (front : List ℕ). listing_steps (seen_at table (n + 1) false digest.0) (front ++ x ∷ []) (if bounded then drop (depth + 1) from else [])) long (sym (take_all depth path (omega arith)));
+      ap₂ (λ (o p : Option (List ℕ)). behind (listing_steps (seen_kid (seen_at table (length path + 1) false) o) (path ++ x ∷ [])) p) (sym there) (bound_left x depth bound from bounded is at)
+      ∙ ap₂ (λ (n : ℕ) (front : List ℕ). listing_steps (seen_at table (n + 1) false digest.0) (front ++ x ∷ []) (if bounded then drop (depth + 1) from else [])) long (sym (take_all depth path (omega arith)));
 }

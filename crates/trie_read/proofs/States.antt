@@ -1,12 +1,12 @@
 -- What a reading answers over a store that holds the texts of a state.
-use Rattle.std.proofs.Common.{◌≡◌, ℕ, List, [], ◌∷◌, Option, None, Some, Result, Ok, Err, refl, sym, ap, ◌∙◌, subst}
+use Rattle.std.proofs.Common.{◌≡◌, ℕ, List, [], ◌∷◌, Option, None, Some, Result, Ok, Err, refl, sym, ap, ◌∙◌}
 use Rattle.std.specs.Borrow.{Bor}
 use Rattle.std.specs.Option.{option_map, option_copied}
 use Rattle.std.specs.FinMap.{get}
 use Rattle.byte_model.specs.Nibbles.{AreBytes, nibbles}
 use Rattle.trie_model.specs.Root.{Table, Holds, root}
 use Rattle.trie_model.specs.State.{State, Row, IsState}
-use Rattle.visit_model.specs.Visits.{Visits, Refusal, lookup_visits}
+use Rattle.visit_model.specs.Visits.{Visits, lookup_visits}
 use Rattle.visit_model.specs.Bounds.{at_most_one}
 use Rattle.visit_model.proofs.Lookups.{lookup_of, lookup_visits-state}
 use Rattle.trie_read.specs.declared.errors.ReadError.{ReadError}

@@ -1,11 +1,9 @@
 -- What a store is left as by one load.
-use Rattle.std.proofs.Common.{◌≡◌, ℕ, ◌+◌, List, [], ◌∷◌, Option, None, Some, Result, Ok, Err, subst}
-use Rattle.base_core.specs.declared.fault.Fault.{Fault}
+use Rattle.std.proofs.Common.{◌≡◌, ℕ, List, [], Option, Some, Result, Ok, subst}
 use Rattle.text_store.specs.Loading.{Digests, Keeps, Loaded}
 use Rattle.text_store.specs.Visiting.{HasLoaded}
 use Rattle.text_store.proofs.Visiting.{HasLoaded-none, HasLoaded-more, Remembers-none, Remembers-more}
 use Rattle.trie_read.specs.Stores.{Visited}
-use Rattle.trie_read.specs.declared.errors.ReadError.{ReadError}
 
 pub visited-some : {S X A E : Type 0} (alike : S → S → Type 0) (loads faults : S → ℕ) (kept : S → Option Digests) (old new : S) (digest : List ℕ) (result : Result (Option A) E) (text : A) (x : X) → ((a : S) → alike a a) → ((a b c : S) → alike a b → alike b c → alike a c) → alike old new → Loaded (loads old) (loads new) (faults old) (faults new) (kept old) (kept new) digest result → result ≡ Ok (Some text) → Visited {X = X} alike loads faults kept old new digest (Ok x)
 visited-some alike loads faults kept old new digest result text x itself onward same loaded found = record {

@@ -1,11 +1,11 @@
 -- Taking up the children of a branch, the last one first.
-use Rattle.std.proofs.Common.{◌≡◌, ℕ, suc, ◌+◌, ◌<◌, ◌≤◌, List, [], ◌∷◌, ◌++◌, length, Option, refl, sym, ap, ◌∙◌, subst, arith, append_assoc, append-nil}
+use Rattle.std.proofs.Common.{◌≡◌, ℕ, suc, ◌<◌, ◌≤◌, List, [], ◌∷◌, ◌++◌, length, Option, sym, ap, ◌∙◌, subst, arith, append_assoc, append-nil}
 use Rattle.byte_model.specs.Below.{joined_below}
 use Rattle.byte_model.specs.PackedPath.{longest_path}
 use Rattle.trie_model.specs.Root.{Table}
 use Rattle.visit_model.specs.Steps.{Step}
 use Rattle.trie_read.specs.declared.walk.Place.{Place}
-use Rattle.trie_read.specs.Walks.{steps_at, steps_of, IsPlace, Stacked, IsBound, kid_steps, KidPlace}
+use Rattle.trie_read.specs.Walks.{steps_of, Stacked, IsBound, kid_steps, KidPlace}
 use Rattle.trie_read.proofs.Stacks.{steps_of-push, Stacked-push}
 
 -- the children from a nibble on were taken up
@@ -20,10 +20,10 @@ unfolding joined_below
 taken-more kids depth bound old mid new nibble place taken kid is = record {
   within = let h = taken.within in omega arith;
   steps = λ table from path long at.
-    taken.steps table from path long at
-    ∙ append_assoc (joined_below (kid_steps table path bound kids) nibble) (kid_steps table path bound kids nibble) (steps_of table from path mid)
-    ∙ ap (λ (l : List Step). joined_below (kid_steps table path bound kids) nibble ++ (l ++ steps_of table from path mid)) (kid.steps table from path long at)
-    ∙ ap (λ (l : List Step). joined_below (kid_steps table path bound kids) nibble ++ l) (sym (steps_of-push table from path mid place) ∙ ap (steps_of table from path) (sym is));
+      taken.steps table from path long at
+      ∙ append_assoc (joined_below (kid_steps table path bound kids) nibble) (kid_steps table path bound kids nibble) (steps_of table from path mid)
+      ∙ ap (λ (l : List Step). joined_below (kid_steps table path bound kids) nibble ++ (l ++ steps_of table from path mid)) (kid.steps table from path long at)
+      ∙ ap (λ (l : List Step). joined_below (kid_steps table path bound kids) nibble ++ l) (sym (steps_of-push table from path mid place) ∙ ap (steps_of table from path) (sym is));
   stacked = λ room all. subst (Stacked depth) (sym is) (Stacked-push depth mid place (taken.stacked room all) (record { front = let f = kid.front in omega arith; deep = let d = kid.depth_is in omega arith; small = kid.small }) kid.front);
 }
 
@@ -33,9 +33,9 @@ unfolding joined_below
 taken-none kids depth bound old new nibble taken none = record {
   within = let h = taken.within in omega arith;
   steps = λ table from path long at.
-    taken.steps table from path long at
-    ∙ ap (λ (l : List Step). (joined_below (kid_steps table path bound kids) nibble ++ l) ++ steps_of table from path new) (none table path)
-    ∙ ap (λ (l : List Step). l ++ steps_of table from path new) (append-nil (joined_below (kid_steps table path bound kids) nibble));
+      taken.steps table from path long at
+      ∙ ap (λ (l : List Step). (joined_below (kid_steps table path bound kids) nibble ++ l) ++ steps_of table from path new) (none table path)
+      ∙ ap (λ (l : List Step). l ++ steps_of table from path new) (append-nil (joined_below (kid_steps table path bound kids) nibble));
   stacked = taken.stacked;
 }
 

@@ -1,11 +1,10 @@
 -- The visit of a root, by the text that is held there.
-use Rattle.std.proofs.Common.{◌≡◌, ℕ, ◌+◌, ◌≤◌, Bool, true, false, List, [], ◌∷◌, length, Option, None, Some, Result, Ok, Err, refl, sym, ap, ◌∙◌, subst, arith}
+use Rattle.std.proofs.Common.{◌≡◌, ℕ, ◌≤◌, Bool, true, false, List, [], length, Option, None, Some, Result, Ok, Err, refl, sym, ap, ◌∙◌, subst, arith}
 use Rattle.std.specs.Prelude.{nat_eq, if◌then◌else◌}
 use Rattle.std.specs.Cmp.Lexicographic.{pointwise}
 use Rattle.std.specs.FinMap.{get}
 use Rattle.byte_model.specs.Node as node
 use Rattle.byte_model.specs.Node.{Node}
-use Rattle.record_model.specs.Records.{record_in}
 use Rattle.trie_model.specs.Root.{Table, Holds, root, total, zero_digest, subtree_at}
 use Rattle.trie_model.specs.State.{State, IsState}
 use Rattle.trie_model.specs.Tree as tree
@@ -13,8 +12,7 @@ use Rattle.trie_model.specs.Tree.{Tree}
 use Rattle.trie_model.specs.Texts as texts
 use Rattle.visit_model.specs.Seen.{Seen, Looks, nothing, missing, bad, seen, seen_at, seen_node, seen_text, seen_record, stated_usage}
 use Rattle.visit_model.specs.Shown.{shown}
-use Rattle.visit_model.specs.Steps.{Step, no_text, no_node, top_steps}
-use Rattle.visit_model.specs.Steps as step
+use Rattle.visit_model.specs.Steps.{Step, top_steps}
 use Rattle.visit_model.specs.Visits as visits
 use Rattle.visit_model.specs.Visits.{Visits, Refusal, no_visits, refused, node_first, visits_of, top_visits}
 use Rattle.visit_model.proofs.ShownStates.{state_seen}
@@ -23,7 +21,7 @@ use Rattle.text_store.specs.Visiting.{HasLoaded, Remembers}
 use Rattle.text_store.proofs.Visiting.{HasLoaded-none, Remembers-none}
 use Rattle.trie_read.specs.declared.errors.ReadError.{ReadError}
 use Rattle.trie_read.specs.declared.errors.ReadError.TheVariants.{Missing, Bad, Fault}
-use Rattle.trie_read.specs.Stores.{Follows, Visited, Interrupted, Leaves}
+use Rattle.trie_read.specs.Stores.{Visited}
 use Rattle.trie_read.specs.Usages.{Stating, IsStated, AnswersUsage, AnswersTotal}
 use Rattle.trie_read.proofs.Seeing.{seen-none, seen-some}
 use Rattle.trie_read.proofs.There.{seen_at-there, top-some}

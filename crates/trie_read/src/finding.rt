@@ -87,11 +87,13 @@ fn find<T: Texts>(store: &mut T, root: &Digest, key: &[u8]) -> Result<Option<Val
         match visit(store, &digest, depth, after_extension, key) {
             Err(error) => return Err(error),
             Ok(Next::End { value }) => return Ok(value),
-            Ok(Next::Child {
-                digest: child,
-                depth: deeper,
-                after_extension: extended,
-            }) => {
+            Ok(
+                Next::Child {
+                    digest: child,
+                    depth: deeper,
+                    after_extension: extended,
+                },
+            ) => {
                 digest = child;
                 depth = deeper;
                 after_extension = extended;

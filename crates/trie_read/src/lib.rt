@@ -4,6 +4,7 @@
 
 mod errors;
 mod finding;
+mod listing;
 mod lookup;
 mod opening;
 mod usage;
@@ -12,4 +13,5 @@ mod walk;
 
 pub use errors::{ListError, ReadError};
 pub use finding::get;
+pub use listing::list;
 pub use usage::usage_of;

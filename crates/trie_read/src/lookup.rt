@@ -35,7 +35,11 @@ pub(crate) fn follow(node: &NodeView<'_>, depth: u64, key: &[u8]) -> Next
     let rest = Nibbles::new(key).rest(depth);
     match node {
         NodeView::Leaf { path, value } => Next::End {
-            value: if is_rest(path, &rest) { Some(*value) } else { None },
+            value: if is_rest(path, &rest) {
+                Some(*value)
+            } else {
+                None
+            },
         },
         NodeView::Branch { value, kids } => {
             if rest.len() == 0 {

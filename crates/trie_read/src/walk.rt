@@ -147,7 +147,12 @@ impl Walk {
     }
 
     /// Takes up the child of an extension.
-    fn take_up(&mut self, path: &Packed<'_>, child: &Digest, bounded: bool) -> Result<(), AllocError>
+    fn take_up(
+        &mut self,
+        path: &Packed<'_>,
+        child: &Digest,
+        bounded: bool,
+    ) -> Result<(), AllocError>
         ensures path { OnOk result (self.new.path.items ≡ self.old.path.items ++ path.now) }
         ensures small { OnOk result (AreNibbles self.old.path.items → AreNibbles self.new.path.items) }
         ensures pending { OnOk result (self.new.pending.items ≡ self.old.pending.items ++ record { digest = child.now; front = length self.new.path.items; nibble = None; after_extension = true; bounded = bounded } ∷ []) }
@@ -241,12 +246,7 @@ fn push_kids(
 }
 
 /// The place of the child at a nibble, if there is one whose keys can reach the bound.
-fn kid_place(
-    kids: &KidsView<'_>,
-    nibble: u8,
-    depth: usize,
-    bound: &Nibbles<'_>,
-) -> Option<Place>
+fn kid_place(kids: &KidsView<'_>, nibble: u8, depth: usize, bound: &Nibbles<'_>) -> Option<Place>
     requires { nibble < 16 }
     ensures { IsKidPlace (kids_seen kids.now) nibble depth bound.now result }
 {

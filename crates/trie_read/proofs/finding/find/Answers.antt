@@ -1,10 +1,8 @@
-use Rattle.std.proofs.Common.{◌≡◌, ◌≤◌, ℕ, [], length, ◌-◌, ◌<◌, arith, refl, sym, ap, subst, Ok, Err}
+use Rattle.std.proofs.Common.{[], arith, sym}
 use Rattle.byte_model.specs.Nibbles.{nibbles}
 use Rattle.visit_model.specs.Seen.{seen}
 use Rattle.visit_model.specs.Steps.{lookup_steps}
 use Rattle.text_store.proofs.Visiting.{HasLoaded-none, Remembers-none}
-use Rattle.trie_read.specs.Lookups.{AnswersVisit}
-use Rattle.trie_read.specs.Stores.{Visited}
 use Rattle.trie_read.proofs.OnTheWay.{root-zero, at_root, found_end, found_refused, found_deeper}
 use Rattle.trie_read.proofs.finding.find.Goals as goal
 

@@ -1,4 +1,4 @@
-use Rattle.std.proofs.Common.{◌≡◌, ◌≤◌, List, ℕ, [], length, ◌+◌, ◌-◌}
+use Rattle.std.proofs.Common.{[], length, ◌-◌}
 use Rattle.byte_model.specs.Nibbles.{nibbles}
 use Rattle.visit_model.specs.Seen.{seen}
 use Rattle.visit_model.specs.Steps.{lookup_steps}

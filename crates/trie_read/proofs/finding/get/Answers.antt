@@ -1,10 +1,9 @@
-use Rattle.std.proofs.Common.{◌≡◌, [], List, ℕ, Some, None, Ok, Err, refl, sym, subst}
+use Rattle.std.proofs.Common.{[], List, ℕ, Some, None, Ok, Err, refl, sym, subst}
 use Rattle.std.specs.Borrow.{Bor}
 use Rattle.trie_model.specs.Root.{Table}
 use Rattle.byte_model.specs.Nibbles.{nibbles}
 use Rattle.visit_model.specs.Seen.{seen}
 use Rattle.visit_model.specs.Steps.{lookup_steps}
-use Rattle.visit_model.specs.Visits.{visits_of}
 use Rattle.trie_read.specs.Lookups.{AnswersValue}
 use Rattle.trie_read.specs.Stores.{Visited}
 use Rattle.trie_read.proofs.Looked.{refused_on_the_way, none_at_the_end, value_at_the_end, refused_at_the_end}

@@ -1,4 +1,4 @@
-use Rattle.std.proofs.Common.{rules, ◌≡◌, Some, Ok, refl, ap, ◌∙◌, sym, length}
+use Rattle.std.proofs.Common.{rules, Ok, refl, ap, ◌∙◌, sym}
 use Rattle.std.specs.Option.{option_copied}
 use Rattle.trie_read.proofs.Stores.{visited-some}
 use Rattle.trie_read.proofs.finding.load_value.Goals as goal

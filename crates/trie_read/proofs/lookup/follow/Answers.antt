@@ -1,4 +1,4 @@
-use Rattle.std.proofs.Common.{rules, ◌≡◌, ℕ, ◌*◌, ◌+◌, ◌-◌, ◌≤◌, List, length, drop, arith, ap, ◌∙◌}
+use Rattle.std.proofs.Common.{rules, ◌≡◌, ℕ, ◌*◌, ◌-◌, ◌≤◌, List, length, arith, ap, ◌∙◌}
 use Rattle.std.proofs.lemmas.List.{length-drop}
 use Rattle.byte_model.specs.Nibbles.{nibbles}
 use Rattle.byte_model.proofs.Digits.{length-nibbles}

@@ -1,8 +1,7 @@
-use Rattle.std.proofs.Common.{◌≡◌, Ok, Err, refl, sym, ap, ◌∙◌}
+use Rattle.std.proofs.Common.{Ok, Err, sym, ap, ◌∙◌}
 use Rattle.std.specs.Option.{option_copied}
 use Rattle.visit_model.specs.Visits as visits
 use Rattle.visit_model.specs.Visits.{Visits, top_visits}
-use Rattle.text_store.proofs.Visiting.{HasLoaded-none, HasLoaded-more}
 use Rattle.trie_read.specs.declared.errors.ReadError.TheVariants.{Missing, Bad}
 use Rattle.trie_read.proofs.Stores.{visited-some, loaded-one}
 use Rattle.trie_read.proofs.Topmost.{zero-visits, zero-usage, missing-visits, bad-visits, node-visits, node-usage, usage-state, leaves_none, leaves_node, leaves_refused, top_visits-some}
@@ -37,7 +36,7 @@ returns-in-Ok-None-clause-after g c =
     let left = c.load.follows.holds-at-none in
     let none = sym (ap option_copied c.in-Ok-None.field-0-is) ∙ c.in-Ok-None.ensures.value in
     leaves_refused g.T.Texts.alike g.T.Texts.load_count g.T.Texts.faults c.args.store.now c.load.follows.lender-at-none (top_visits table c.args.root.now.0) c.args.root.now.0 (visits.missing c.args.root.now.0) (missing-visits table c.args.root.now.0 c.if-eq.ensures none)
-      (loaded-one g.T.Texts.alike g.T.Texts.load_count g.T.Texts.faults g.T.Texts.kept c.args.store.now c.load.follows.lender-at-none c.args.root.now.0 c.load.result g.met.T.Texts.alike_itself g.met.T.Texts.alike_onward left.0 left.1)
+    (loaded-one g.T.Texts.alike g.T.Texts.load_count g.T.Texts.faults g.T.Texts.kept c.args.store.now c.load.follows.lender-at-none c.args.root.now.0 c.load.result g.met.T.Texts.alike_itself g.met.T.Texts.alike_onward left.0 left.1)
 
 pub returns-in-Ok-None-clause-answer : goal.returns-in-Ok-None-clause-answer
 returns-in-Ok-None-clause-answer g c =
@@ -57,7 +56,7 @@ returns-in-Some-clause-after g c =
     let found = c.in-Ok-Some.is ∙ ap Ok c.in-Ok-Some.field-0-is in
     let text = sym (ap option_copied c.in-Ok-Some.field-0-is) ∙ c.in-Ok-Some.ensures.value in
     leaves_node g.T.Texts.alike g.T.Texts.load_count g.T.Texts.faults g.T.Texts.kept c.args.store.now c.load.follows.lender-at-none (top_visits table c.args.root.now.0) c.args.root.now.0 c.in-Some.usage (node-visits table c.args.root.now.0 c.in-Ok-Some.text.now c.in-Some.usage c.if-eq.ensures text c.in-Some.ensures)
-      (visited-some g.T.Texts.alike g.T.Texts.load_count g.T.Texts.faults g.T.Texts.kept c.args.store.now c.load.follows.lender-at-none c.args.root.now.0 c.load.result c.in-Ok-Some.text c.in-Some.usage g.met.T.Texts.alike_itself g.met.T.Texts.alike_onward left.0 left.1 found)
+    (visited-some g.T.Texts.alike g.T.Texts.load_count g.T.Texts.faults g.T.Texts.kept c.args.store.now c.load.follows.lender-at-none c.args.root.now.0 c.load.result c.in-Ok-Some.text c.in-Some.usage g.met.T.Texts.alike_itself g.met.T.Texts.alike_onward left.0 left.1 found)
 
 pub returns-in-Some-clause-answer : goal.returns-in-Some-clause-answer
 returns-in-Some-clause-answer g c =
@@ -76,7 +75,7 @@ returns-in-None-clause-after g c =
     let left = c.load.follows.holds-at-none in
     let text = sym (ap option_copied c.in-Ok-Some.field-0-is) ∙ c.in-Ok-Some.ensures.value in
     leaves_refused g.T.Texts.alike g.T.Texts.load_count g.T.Texts.faults c.args.store.now c.load.follows.lender-at-none (top_visits table c.args.root.now.0) c.args.root.now.0 (visits.bad c.args.root.now.0) (bad-visits table c.args.root.now.0 c.in-Ok-Some.text.now c.if-eq.ensures text c.in-None.ensures)
-      (loaded-one g.T.Texts.alike g.T.Texts.load_count g.T.Texts.faults g.T.Texts.kept c.args.store.now c.load.follows.lender-at-none c.args.root.now.0 c.load.result g.met.T.Texts.alike_itself g.met.T.Texts.alike_onward left.0 left.1)
+    (loaded-one g.T.Texts.alike g.T.Texts.load_count g.T.Texts.faults g.T.Texts.kept c.args.store.now c.load.follows.lender-at-none c.args.root.now.0 c.load.result g.met.T.Texts.alike_itself g.met.T.Texts.alike_onward left.0 left.1)
 
 pub returns-in-None-clause-answer : goal.returns-in-None-clause-answer
 returns-in-None-clause-answer g c =

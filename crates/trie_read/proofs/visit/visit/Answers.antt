@@ -1,4 +1,4 @@
-use Rattle.std.proofs.Common.{◌≡◌, List, Option, Some, Ok, refl, ap, ◌∙◌, sym, drop}
+use Rattle.std.proofs.Common.{Ok, refl, ap, ◌∙◌, sym, drop}
 use Rattle.std.specs.Option.{option_copied}
 use Rattle.byte_model.specs.Nibbles.{nibbles}
 use Rattle.trie_read.proofs.Seeing.{within_key, seen-none, seen-bad, seen-next}

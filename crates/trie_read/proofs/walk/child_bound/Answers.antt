@@ -1,4 +1,4 @@
-use Rattle.std.proofs.Common.{rules, ◌≡◌, ◌≢◌, ℕ, ◌<◌, ◌≤◌, length, get_or, ◌∙◌, sym, arith}
+use Rattle.std.proofs.Common.{rules, ◌≢◌, ◌<◌, ◌≤◌, length, ◌∙◌, sym, arith}
 use Rattle.trie_read.proofs.Bounded.{child-free, child-below, child-same, child-above}
 use Rattle.trie_read.proofs.walk.child_bound.Goals as goal
 

@@ -1,4 +1,3 @@
-use Rattle.std.proofs.Common.{◌≡◌, ◌∙◌, ap}
 use Rattle.node_codec.specs.Children.{kids_seen}
 use Rattle.trie_read.proofs.Stacks.{kid-none, kid-below, kid-place}
 use Rattle.trie_read.proofs.walk.kid_place.Goals as goal

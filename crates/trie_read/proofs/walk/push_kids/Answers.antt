@@ -1,8 +1,5 @@
-use Rattle.std.proofs.Common.{rules, ◌≡◌, ℕ, suc, ◌-◌, ◌<◌, List, ◌∙◌, subst, sym, ap, arith}
-use Rattle.byte_model.specs.Below.{joined_below}
+use Rattle.std.proofs.Common.{rules, ◌≡◌, suc, ◌-◌, ◌<◌, subst, arith}
 use Rattle.node_codec.specs.Children.{kids_seen}
-use Rattle.visit_model.specs.Steps.{Step}
-use Rattle.trie_read.specs.Walks.{kid_steps, steps_of}
 use Rattle.trie_read.proofs.Taking.{TakenUp, taken-more, taken-none, taken-all}
 use Rattle.trie_read.proofs.walk.push_kids.Goals as goal
 
@@ -11,14 +8,14 @@ loop-nibble-preserved-in-Continue-1 c =
     let some : 0 < c.loop-nibble.nibble = c.loop-nibble-test.true in
     let next : c.loop-nibble.nibble ≡ suc (c.loop-nibble.nibble - 1) = omega arith in
     taken-more (kids_seen c.args.kids.now) c.args.depth c.args.bound.now c.args.pending.now.items c.loop-nibble.pending.items c.push.new.self.items (c.loop-nibble.nibble - 1) c.in-Some.place
-      (subst (TakenUp (kids_seen c.args.kids.now) c.args.depth c.args.bound.now c.args.pending.now.items c.loop-nibble.pending.items) next c.loop-nibble.invariant) c.in-Some.ensures c.in_ok-push.ensures.items
+    (subst (TakenUp (kids_seen c.args.kids.now) c.args.depth c.args.bound.now c.args.pending.now.items c.loop-nibble.pending.items) next c.loop-nibble.invariant) c.in-Some.ensures c.in_ok-push.ensures.items
 
 pub loop-nibble-preserved : goal.loop-nibble-preserved
 loop-nibble-preserved c =
     let some : 0 < c.loop-nibble.nibble = c.loop-nibble-test.true in
     let next : c.loop-nibble.nibble ≡ suc (c.loop-nibble.nibble - 1) = omega arith in
     taken-none (kids_seen c.args.kids.now) c.args.depth c.args.bound.now c.args.pending.now.items c.loop-nibble.pending.items (c.loop-nibble.nibble - 1)
-      (subst (TakenUp (kids_seen c.args.kids.now) c.args.depth c.args.bound.now c.args.pending.now.items c.loop-nibble.pending.items) next c.loop-nibble.invariant) c.in_default.ensures
+    (subst (TakenUp (kids_seen c.args.kids.now) c.args.depth c.args.bound.now c.args.pending.now.items c.loop-nibble.pending.items) next c.loop-nibble.invariant) c.in_default.ensures
 
 pub returns-clause-steps : goal.returns-clause-steps
 returns-clause-steps c =

@@ -1,4 +1,4 @@
-use Rattle.std.proofs.Common.{rules, ◌≡◌, ◌≢◌, ℕ, ◌<◌, ◌≤◌, length, get_or, ◌∙◌, sym, arith}
+use Rattle.std.proofs.Common.{rules, ◌≡◌, ◌≢◌, ◌<◌, ◌≤◌, length, ◌∙◌, arith}
 use Rattle.trie_read.proofs.Bounded.{side-above, side-within, side-below_at, side-above_at}
 use Rattle.trie_read.proofs.walk.side_of.Goals as goal
 

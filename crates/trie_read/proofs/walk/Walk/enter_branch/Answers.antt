@@ -1,4 +1,4 @@
-use Rattle.std.proofs.Common.{rules, ◌≡◌, ◌≢◌, ℕ, List, length, refl, sym, ◌∙◌, subst, inl, inr, None}
+use Rattle.std.proofs.Common.{rules, ◌≡◌, ◌≢◌, length, refl, sym, ◌∙◌, subst, inl, inr, None}
 use Rattle.node_codec.specs.Children.{kids_seen}
 use Rattle.trie_read.specs.declared.walk.Walk.{Walk}
 use Rattle.trie_read.proofs.Entering.{Pushed, StaysStacked, branch-entered}

@@ -1,4 +1,4 @@
-use Rattle.std.proofs.Common.{◌≡◌, ℕ, List, refl, subst}
+use Rattle.std.proofs.Common.{ℕ, List, refl, subst}
 use Rattle.trie_read.specs.declared.walk.Side.TheVariants.{Below, Within, Above}
 use Rattle.trie_read.specs.Walks.{IsSide}
 use Rattle.trie_read.proofs.Entering.{leaf-passed, passed-below, passed-within, leaf-entered}
