@@ -3,6 +3,7 @@
 
 mod kids;
 mod kids_view;
+pub mod laws;
 mod layout;
 mod node;
 mod node_error;
