@@ -23,4 +23,6 @@ pub use value_ref::ValueRef;
 pub use writing::{write_branch, write_extension, write_leaf, write_node};
 
 #[cfg(test)]
+mod reading_tests;
+#[cfg(test)]
 mod tests;
