@@ -38,3 +38,45 @@ fn pairs_in_order(rt: HostRuntime) -> Result<(), Fail> {
     assert_eq!(rt; pairs.at(2), rows[2]);
     Ok(())
 }
+
+#[test]
+fn fields_in_order(rt: HostRuntime) -> Result<(), Fail> {
+    let mut writer = Writer::new(rt.alloc());
+    writer.put_raw(b"\x07\x34\x01\x78\x56\x34\x12\x34\x01\0\0\0\0\0\0")?;
+    writer.put_raw(&[9; 32])?;
+    writer.put_raw(b"\x02\0\0\0\xab\xcd\0\0\0\0\x05")?;
+    let text = writer.into_text();
+    let mut reader = Reader::new(text.as_slice());
+    assert_eq!(rt; reader.u8(), Ok(7));
+    assert_eq!(rt; reader.u16(), Ok(308));
+    assert_eq!(rt; reader.u32(), Ok(0x12345678));
+    assert_eq!(rt; reader.u64(), Ok(308));
+    assert_eq!(rt; reader.place(), 15);
+    assert_eq!(rt; reader.digest(), Ok(Digest([9; 32])));
+    assert_eq!(rt; reader.bytes(), Ok(b"\xab\xcd".as_slice()));
+    assert_eq!(rt; reader.bytes(), Ok(b"".as_slice()));
+    assert_eq!(rt; (reader.place(), reader.left()), (57, 1));
+    assert_eq!(rt; reader.end(), Err(BorshError::Rest { at: 57 }));
+    assert_eq!(rt; reader.take(1), Ok(b"\x05".as_slice()));
+    assert_eq!(rt; reader.end(), Ok(()));
+    Ok(())
+}
+
+/// A vector of three bytes, of which two are there. What is refused leaves the reader in its place.
+#[test]
+fn fields_past_the_end(rt: HostRuntime) {
+    let mut reader = Reader::new(b"\x07\x03\0\0\0\x01\x02");
+    assert_eq!(rt; reader.take(1), Ok(b"\x07".as_slice()));
+    assert_eq!(rt; reader.u64(), Err(BorshError::Short { at: 1 }));
+    assert_eq!(rt; reader.digest(), Err(BorshError::Short { at: 1 }));
+    assert_eq!(rt; reader.take(7), Err(BorshError::Short { at: 1 }));
+    assert_eq!(rt; reader.bytes(), Err(BorshError::Short { at: 5 }));
+    assert_eq!(rt; reader.place(), 1);
+    assert_eq!(rt; reader.u32(), Ok(3));
+    assert_eq!(rt; reader.u32(), Err(BorshError::Short { at: 5 }));
+    assert_eq!(rt; reader.bytes(), Err(BorshError::Short { at: 5 }));
+    assert_eq!(rt; reader.take(2), Ok(b"\x01\x02".as_slice()));
+    assert_eq!(rt; reader.u16(), Err(BorshError::Short { at: 7 }));
+    assert_eq!(rt; reader.u8(), Err(BorshError::Short { at: 7 }));
+    assert_eq!(rt; reader.take(0), Ok(b"".as_slice()));
+}

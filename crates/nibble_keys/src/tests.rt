@@ -1,5 +1,6 @@
 use super::*;
 use base_core::Text;
+use std::process::Abort;
 use std::test::Fail;
 
 #[test]
@@ -31,4 +32,39 @@ fn packed_paths(rt: HostRuntime) -> Result<(), Fail> {
     }
     assert_eq!(rt; packed_len(3), 2);
     Ok(())
+}
+
+/// The nibbles that are read of some bytes, and whether they end at a leaf.
+fn expect_path(rt: &impl Abort, bytes: &[u8], nibbles: &[u8], leaf: bool) {
+    let (path, ends) = Packed::read(bytes).expect(rt, "a packed path");
+    assert_eq!(rt; ends, leaf);
+    assert_eq!(rt; path.len(), nibbles.len() as u64);
+    assert_eq!(rt; path.nibbles().len(), path.len());
+    for (i, nibble) in nibbles.iter().enumerate() {
+        assert!(rt; (i as u64) < path.len());
+        assert_eq!(rt; path.at(i as u64), *nibble);
+    }
+}
+
+#[test]
+fn paths_that_are_read(rt: HostRuntime) {
+    expect_path(&rt, &[0x20], &[], true);
+    expect_path(&rt, &[0x20, 0x61], &[6, 1], true);
+    expect_path(&rt, &[0x3b], &[11], true);
+    expect_path(&rt, &[0x00], &[], false);
+    expect_path(&rt, &[0x16], &[6], false);
+    expect_path(&rt, &[0x11, 0x23], &[1, 2, 3], false);
+}
+
+fn expect_refused(rt: &impl Abort, bytes: &[u8], error: PackError) {
+    assert_eq!(rt; Packed::read(bytes).err(), Some(error));
+}
+
+#[test]
+fn paths_that_are_refused(rt: HostRuntime) {
+    expect_refused(&rt, &[], PackError::Empty);
+    expect_refused(&rt, &[0x60, 0x61], PackError::Flag);
+    expect_refused(&rt, &[0x81], PackError::Flag);
+    expect_refused(&rt, &[0x21], PackError::Pad);
+    expect_refused(&rt, &[0x0f, 0x61], PackError::Pad);
 }

@@ -3,6 +3,7 @@
 
 mod kids;
 mod kids_view;
+pub mod laws;
 mod layout;
 mod node;
 mod node_error;
@@ -21,5 +22,7 @@ pub use reading::read_node;
 pub use value_ref::ValueRef;
 pub use writing::{write_branch, write_extension, write_leaf, write_node};
 
+#[cfg(test)]
+mod reading_tests;
 #[cfg(test)]
 mod tests;

@@ -2,6 +2,7 @@ pub mod Digests
 pub mod PackedPaths
 pub mod Steps
 pub mod Fields
+pub mod Exact
 pub mod Layouts
 pub mod Kids
 pub mod Nodes

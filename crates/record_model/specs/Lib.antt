@@ -1,4 +1,5 @@
 pub mod Fields
+pub mod Exact
 pub mod Paths
 pub mod Records
 pub mod Fits

@@ -1,13 +1,26 @@
 //! Laws over the definitions, in other words than theirs. A law is proved where its function is: there is nothing to run.
 
 ghost use Rattle.std.specs.Prelude.{◌≡◌, ◌++◌, ◌+◌, ◌*◌, ◌/◌, ◌^◌, ◌<◌, ℕ, List, length, take, drop, Bool, nat_lt, if◌then◌else◌, Ok, Err, IfOk, IsOkAnd, Decides};
+ghost use Rattle.std.specs.Int.{w8, w16, w32, w64};
 ghost use Rattle.byte_model.specs.Nibbles.{AreBytes, AreNibbles};
+ghost use Rattle.byte_model.specs.Borsh.{borsh_u8, borsh_u16, borsh_u32, borsh_u64, borsh_bytes};
 ghost use Rattle.byte_model.specs.PackedPath.{packed};
 ghost use Rattle.byte_model.specs.Node.{Node, spelled, IsShaped};
 ghost use Rattle.byte_model.specs.Laws.{FitsRecord, SameNode};
-ghost use Rattle.record_model.specs.Fields.{Cursor, short, digests_at};
+ghost use Rattle.record_model.specs.Fields.{Cursor, short, bytes_at, number_at, vector_at, digests_at};
+ghost use Rattle.record_model.specs.Exact.{ReadsExactly};
 ghost use Rattle.record_model.specs.Paths.{path_in};
 ghost use Rattle.record_model.specs.Records.{HasShortPath, IsRecord, has_shape, record_in};
+
+/// Reading a field accepts exactly what Borsh 1.0 spells: integers of one, two, four and eight bytes, arrays of a fixed length, and vectors of bytes.
+pub fn fields_are_read_exactly()
+    ensures one_byte { ReadsExactly (number_at w8) borsh_u8 (λ n. n < 2 ^ 8) }
+    ensures two_bytes { ReadsExactly (number_at w16) borsh_u16 (λ n. n < 2 ^ 16) }
+    ensures four_bytes { ReadsExactly (number_at w32) borsh_u32 (λ n. n < 2 ^ 32) }
+    ensures eight_bytes { ReadsExactly (number_at w64) borsh_u64 (λ n. n < 2 ^ 64) }
+    ensures array { (count : ℕ) → ReadsExactly (bytes_at count) (λ bytes. bytes) (λ bytes. length bytes ≡ count) }
+    ensures vector { ReadsExactly vector_at borsh_bytes (λ bytes. length bytes < 2 ^ 32) }
+{}
 
 /// Digests are read one after the other as all their bytes are read at once. Where the bytes end before, the fault is at the first digest that is not whole.
 pub fn digests_are_read_at_once()

@@ -1,7 +1,8 @@
 use super::*;
-use base_core::{Digest, Pairs, PutError, Text};
-use node_codec::Kids;
-use std::alloc::Global;
+use base_core::{Digest, Pairs, PutError, Text, Writer};
+use node_codec::{Kids, read_node};
+use std::alloc::{AllocError, Global};
+use std::process::Abort;
 use std::test::Fail;
 
 type Pair<'a> = (&'a [u8], &'a [u8]);
@@ -148,5 +149,94 @@ fn subtrees(rt: HostRuntime) -> Result<(), Fail> {
     let root = b"06481f83918f99a3be485a586d16b56c10a9d578353d60e887baa5f9c389262e";
     assert_eq!(rt; hex(&closed.digest).as_slice(), root.as_slice());
     assert_eq!(rt; closed.usage, 308);
+    Ok(())
+}
+
+/// The record of a leaf with a value of two bytes, or of an extension, with a path of zeros.
+fn path_record(alloc: Global, leaf: bool, nibbles: u16) -> Result<Text, AllocError> {
+    let flags = if leaf { 0x20 } else { 0 };
+    let odd = if nibbles % 2 == 1 { 0x10 } else { 0 };
+    let mut writer = Writer::new(alloc);
+    writer.put_u8(if leaf { 0 } else { 3 })?;
+    writer.put_u32(1 + nibbles as u32 / 2)?;
+    writer.put_u8(flags + odd)?;
+    for _ in 0..nibbles / 2 {
+        writer.put_u8(0)?;
+    }
+    if leaf {
+        writer.put_u32(2)?;
+    }
+    writer.put_raw(&[7; 32])?;
+    writer.put_u64(0)?;
+    Ok(writer.into_text())
+}
+
+/// The record of a branch with two children, and with a value of two bytes or none.
+fn branch_record(alloc: Global, value: bool) -> Result<Text, AllocError> {
+    let mut writer = Writer::new(alloc);
+    if value {
+        writer.put_raw(b"\x02\x02\0\0\0")?;
+        writer.put_raw(&[7; 32])?;
+    } else {
+        writer.put_u8(1)?;
+    }
+    writer.put_u16(6)?;
+    writer.put_raw(&[7; 64])?;
+    writer.put_u64(0)?;
+    Ok(writer.into_text())
+}
+
+fn expect_cost(rt: &impl Abort, record: &Text, cost: u64) {
+    let (node, _) = read_node(record.as_slice()).expect(rt, "a record");
+    assert_eq!(rt; own_cost(&node), cost);
+}
+
+fn expect_fit(rt: &impl Abort, record: &Text, depth: u64, after_extension: bool, want: bool) {
+    let (node, _) = read_node(record.as_slice()).expect(rt, "a record");
+    assert_eq!(rt; fits(&node, depth, after_extension), want, "{depth}");
+}
+
+#[test]
+fn costs_of_nodes(rt: HostRuntime) -> Result<(), Fail> {
+    let alloc = rt.alloc();
+    expect_cost(&rt, &path_record(alloc, true, 0)?, 104);
+    expect_cost(&rt, &path_record(alloc, true, 1)?, 104);
+    expect_cost(&rt, &path_record(alloc, true, 4228)?, 4332);
+    expect_cost(&rt, &path_record(alloc, false, 1)?, 52);
+    expect_cost(&rt, &path_record(alloc, false, 2)?, 54);
+    expect_cost(&rt, &branch_record(alloc, false)?, 50);
+    expect_cost(&rt, &branch_record(alloc, true)?, 102);
+    Ok(())
+}
+
+/// A key ends at a whole byte and within 4,228 nibbles, and below no extension.
+#[test]
+fn where_leaves_fit(rt: HostRuntime) -> Result<(), Fail> {
+    let odd = path_record(rt.alloc(), true, 1)?;
+    expect_fit(&rt, &odd, 1, false, true);
+    expect_fit(&rt, &odd, 2, false, false);
+    expect_fit(&rt, &odd, 1, true, false);
+    expect_fit(&rt, &odd, 4227, false, true);
+    expect_fit(&rt, &odd, 4229, false, false);
+    expect_fit(&rt, &odd, u64::MAX, false, false);
+    let long = path_record(rt.alloc(), true, 4228)?;
+    expect_fit(&rt, &long, 0, false, true);
+    expect_fit(&rt, &long, 2, false, false);
+    Ok(())
+}
+
+/// There is room for a nibble more, a value is of a whole key, and an extension is below no other.
+#[test]
+fn where_other_nodes_fit(rt: HostRuntime) -> Result<(), Fail> {
+    let extension = path_record(rt.alloc(), false, 2)?;
+    expect_fit(&rt, &extension, 4225, false, true);
+    expect_fit(&rt, &extension, 4226, false, false);
+    expect_fit(&rt, &extension, 0, true, false);
+    let branch = branch_record(rt.alloc(), false)?;
+    expect_fit(&rt, &branch, 4227, true, true);
+    expect_fit(&rt, &branch, 4228, false, false);
+    let with_value = branch_record(rt.alloc(), true)?;
+    expect_fit(&rt, &with_value, 4226, true, true);
+    expect_fit(&rt, &with_value, 4227, true, false);
     Ok(())
 }
