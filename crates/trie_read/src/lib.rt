@@ -11,3 +11,6 @@ mod visit;
 pub use errors::{ListError, ReadError};
 pub use finding::get;
 pub use usage::usage_of;
+
+#[cfg(test)]
+mod tests;
