@@ -15,3 +15,6 @@ pub use errors::{ListError, ReadError};
 pub use finding::get;
 pub use listing::list;
 pub use usage::usage_of;
+
+#[cfg(test)]
+mod tests;
