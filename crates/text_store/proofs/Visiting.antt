@@ -1,9 +1,8 @@
 -- One load after others.
-use Rattle.std.proofs.Common.{◌≡◌, ℕ, ◌+◌, ◌≤◌, List, [], ◌∷◌, ◌++◌, length, Option, None, Some, Result, Ok, Err, refl, sym, ap, ◌∙◌, subst, arith, length-append}
-use Rattle.std.specs.Prelude.{IfSome, IsSomeAnd, min, max}
+use Rattle.std.proofs.Common.{◌≡◌, ℕ, ◌+◌, List, [], ◌∷◌, ◌++◌, Option, None, Some, Result, refl, sym, ap, ◌∙◌, arith}
+use Rattle.std.specs.Prelude.{IfSome, IsSomeAnd}
 use Rattle.std.specs.FinSet.{insert}
-use Rattle.base_core.specs.Faults.{IsCounted}
-use Rattle.text_store.specs.Loading.{Digests, risen, Keeps, Loaded}
+use Rattle.text_store.specs.Loading.{Digests, risen, Loaded}
 use Rattle.text_store.specs.Visiting.{HasLoaded, with_all, Remembers}
 
 with_all-end : (kept : Digests) (digests : List (List ℕ)) (digest : List ℕ) → with_all kept (digests ++ digest ∷ []) ≡ insert (with_all kept digests) digest
