@@ -1,6 +1,7 @@
 //! Keys as paths of nibbles, and the packed form that a path has in a record.
 #![tactic(auto)]
 
+mod flags;
 mod nibbles;
 mod pack_error;
 mod packing;

@@ -3,12 +3,9 @@ ghost use Rattle.byte_model.specs.Nibbles.{AreNibbles};
 ghost use Rattle.byte_model.specs.Nibbles as keys;
 ghost use Rattle.byte_model.specs.PackedPath.{packed, two_to_a_byte, longest_path};
 
+use crate::flags::{LEAF_FLAG, ODD_FLAG};
 use base_core::{Text, Writer};
 use std::alloc::{AllocError, Global};
-
-const LEAF_FLAG: u8 = 0x20;
-
-const ODD_FLAG: u8 = 0x10;
 
 /// How many bytes a path of so many nibbles is packed into.
 pub fn packed_len(nibbles: usize) -> usize

@@ -4,16 +4,13 @@ ghost use Rattle.byte_model.specs.PackedPath.{packed};
 ghost use Rattle.record_model.specs.Paths.{path_in};
 ghost use Rattle.nibble_keys.specs.Unpacking.{Gives};
 
+use crate::flags::{LEAF_FLAG, ODD_FLAG};
 use crate::nibbles::Nibbles;
 use crate::pack_error::PackError;
 use std::marker::Model;
 
 /// The lower one of the two bits of a first byte that are no flags.
 const LOWEST_OTHER_BIT: u8 = 0x40;
-
-const LEAF_FLAG: u8 = 0x20;
-
-const ODD_FLAG: u8 = 0x10;
 
 /// A path of nibbles, read where it is packed. It takes no memory.
 #[derive(Debug, Drop)]
