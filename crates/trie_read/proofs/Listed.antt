@@ -16,7 +16,6 @@ use Rattle.visit_model.specs.Steps.{Step, no_text, no_node, value, value_steps, 
 use Rattle.visit_model.specs.Visits.{Visits, Refusal, missing, bad, no_visits, refused, value_first, value_visit, visits_of, listing_visits}
 use Rattle.visit_model.specs.Bounds.{reaches}
 use Rattle.visit_model.proofs.Listings.{reads-state, rows_from-pairs}
-use Rattle.base_core.specs.Faults.{Rose}
 use Rattle.base_core.specs.Held.{Held}
 use Rattle.base_core.specs.declared.hash.Digest.{Digest}
 use Rattle.node_codec.specs.declared.value_ref.ValueRef as codec
@@ -30,6 +29,8 @@ use Rattle.trie_read.specs.declared.walk.Place.{Place}
 use Rattle.trie_read.specs.declared.walk.Walk.{Walk}
 use Rattle.trie_read.specs.Walks.{place_before, place_depth, place_bound, steps_at, steps_of, IsWalk}
 use Rattle.trie_read.specs.Listings.{Passed, AnswersPlace, HasLoadedUpTo, LeftByPlace, AnswersPair, AnswersListing, AnswersPairs, LeavesListed}
+use Rattle.trie_read.proofs.Stores.{rose_after}
+use Rattle.trie_read.proofs.States.{none_some}
 use Rattle.trie_read.proofs.There.{seen_at-there, listing-some}
 use Rattle.trie_read.proofs.Looked.{visits-some}
 use Rattle.trie_read.proofs.OnTheWay.{root-seen}
@@ -118,9 +119,6 @@ refused-all alike loads faults old mid new visits digests rows digest why onward
   subst (λ (v : Visits). HasLoaded alike loads faults old new (length v.digests)) (sym all) (subst (HasLoaded alike loads faults old new) (sym (length-append digests (digest ∷ []))) (HasLoaded-then alike loads faults old mid new (length digests) 1 onward before more)),
   ap (λ (v : Visits). v.refusal) all,
 )
-
-rose_after : (a b c : ℕ) → a ≤ b → Rose b c → Rose a c
-rose_after a b c h r = omega arith
 
 -- loads that were interrupted before the step was done
 up_to : {S : Type 0} (alike : S → S → Type 0) (loads faults : S → ℕ) (old mid new : S) (visits : Visits) (digests : List (List ℕ)) (rows : List Row) (rest : Visits) (n : ℕ) → ((a b c : S) → alike a b → alike b c → alike a c) → visits ≡ after digests rows rest → 0 < length rest.digests → n ≤ 1 → HasLoaded alike loads faults old mid (length digests) → HasLoaded alike loads faults mid new n → HasLoadedUpTo alike loads faults old new (length visits.digests)
@@ -231,9 +229,6 @@ same_pairs (p ∷ ps) (q ∷ qs) e =
     let held : p.1 ≡ q.1 = ap (λ (r : Row). r.1) row in
     let first : p ≡ q = λ i. (key i, held i) in
     ap₂ (λ (r : Pair) (rs : List Pair). r ∷ rs) first (same_pairs ps qs (later_rows e))
-
-none_some : (x : Refusal) (o : Option Refusal) → o ≡ None → o ≡ Some x → ⊥
-none_some x o e f = let no : None ≡ Some x = sym e ∙ f in cc
 
 pub list-state : (table : Table) (top from : List ℕ) (most : ℕ) (result : Result Held ListError) → AnswersListing (listing_visits table top from most) most result → (state : State) → Holds table state → IsState state → top ≡ root state → AnswersPairs (take most (filter (λ pair. reaches from pair.0) (entries state))) result
 unfolding rows_of

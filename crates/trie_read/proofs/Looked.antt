@@ -9,7 +9,6 @@ use Rattle.byte_model.specs.Node.{ValueRef}
 use Rattle.visit_model.specs.Steps.{Step, no_text, no_node, value}
 use Rattle.visit_model.specs.Steps as step
 use Rattle.visit_model.specs.Visits.{Visits, missing, bad, no_visits, refused, node_first, value_first, value_visit, visits_of}
-use Rattle.base_core.specs.Faults.{Rose}
 use Rattle.node_codec.specs.declared.value_ref.ValueRef as codec
 use Rattle.node_codec.specs.Shown.{value_of}
 use Rattle.text_store.specs.Loading.{Digests}
@@ -18,6 +17,7 @@ use Rattle.text_store.proofs.Visiting.{HasLoaded-then, Remembers-then}
 use Rattle.trie_read.specs.declared.errors.ReadError.{ReadError}
 use Rattle.trie_read.specs.declared.errors.ReadError.TheVariants.{Missing, Bad, Fault}
 use Rattle.trie_read.specs.Lookups.{EndsWith, Goes, Finds, Found, AnswersValue, AnswersLookup}
+use Rattle.trie_read.proofs.Stores.{visited-more, rose_after}
 use Rattle.trie_read.specs.Stores.{Visited, Leaves}
 
 -- nodes that were visited before
@@ -121,30 +121,22 @@ other-value path text ref other = go (length text == ref.length) refl
     go true e = absurd (other (eqb-true (length text) ref.length e))
     go false e = refl
 
--- one load more
-loaded_all : {S X : Type 0} (alike : S → S → Type 0) (loads faults : S → ℕ) (kept : S → Option Digests) (old mid new : S) (digests : List (List ℕ)) (digest : List ℕ) (result : Result X ReadError) → ((a b c : S) → alike a b → alike b c → alike a c) → HasLoaded alike loads faults old mid (length digests) → Visited alike loads faults kept mid new digest result → HasLoaded alike loads faults old new (length (digests ++ digest ∷ []))
-loaded_all alike loads faults kept old mid new digests digest result onward before more =
-    subst (HasLoaded alike loads faults old new) (sym (length-append digests (digest ∷ []))) (HasLoaded-then alike loads faults old mid new (length digests) 1 onward before more.loaded)
-
 pub value_at_the_end : {S : Type 0} (alike : S → S → Type 0) (loads faults : S → ℕ) (kept : S → Option Digests) (old mid new : S) (table : Table) (steps : List Step) (path : List ℕ) (ref : codec.ValueRef) (text : Bor (List ℕ)) → ((a b c : S) → alike a b → alike b c → alike a c) → Found alike loads faults kept old mid steps path (Ok (Some ref)) → AnswersValue table ref (Ok text) → Visited {X = Bor (List ℕ)} alike loads faults kept mid new ref.digest.0 (Ok text) → Answered alike loads faults kept old new (visits_of table 1 steps) path (Ok (Some text))
 value_at_the_end alike loads faults kept old mid new table steps path ref text onward f answer more =
     let visits : visits_of table 1 steps ≡ record { digests = f.digests ++ ref.digest.0 ∷ []; values = (path, text.now) ∷ []; refusal = None } =
     value-last table steps path f.digests ref (Some text.now) f.finds answer.0 ∙ ap (after_nodes f.digests) (found-value path text.now ref answer.1) in
     record {
       leaves = subst (λ (v : Visits). HasLoaded alike loads faults old new (length v.digests) × Remembers (kept old) (kept new) v.digests) (sym visits)
-          (loaded_all alike loads faults kept old mid new f.digests ref.digest.0 (Ok text) onward f.visited.loaded more, Remembers-then (kept old) (kept mid) (kept new) f.digests (ref.digest.0 ∷ []) f.visited.follows more.follows);
+          (visited-more alike loads faults kept old mid new f.digests ref.digest.0 (Ok text) onward f.visited.loaded more, Remembers-then (kept old) (kept mid) (kept new) f.digests (ref.digest.0 ∷ []) f.visited.follows more.follows);
       answers = (ap (λ (v : Visits). v.values) visits, ap (λ (v : Visits). v.refusal) visits);
     }
-
-rose_after : (a b c : ℕ) → a ≤ b → Rose b c → Rose a c
-rose_after a b c h r = omega arith
 
 pub refused_at_the_end : {S : Type 0} (alike : S → S → Type 0) (loads faults : S → ℕ) (kept : S → Option Digests) (old mid new : S) (table : Table) (steps : List Step) (path : List ℕ) (ref : codec.ValueRef) (error : ReadError) → ((a b c : S) → alike a b → alike b c → alike a c) → Found alike loads faults kept old mid steps path (Ok (Some ref)) → AnswersValue table ref (Err error) → Visited {X = Bor (List ℕ)} alike loads faults kept mid new ref.digest.0 (Err error) → Answered alike loads faults kept old new (visits_of table 1 steps) path (Err error)
 unfolding value_visit
 refused_at_the_end alike loads faults kept old mid new table steps path ref (Missing named) onward f answer more =
     let visits : visits_of table 1 steps ≡ record { digests = f.digests ++ ref.digest.0 ∷ []; values = []; refusal = Some (missing ref.digest.0) } = value-last table steps path f.digests ref None f.finds answer.1 in
     record {
-      leaves = subst (λ (v : Visits). HasLoaded alike loads faults old new (length v.digests)) (sym visits) (loaded_all {X = Bor (List ℕ)} alike loads faults kept old mid new f.digests ref.digest.0 (Err (Missing named)) onward f.visited.loaded more);
+      leaves = subst (λ (v : Visits). HasLoaded alike loads faults old new (length v.digests)) (sym visits) (visited-more {X = Bor (List ℕ)} alike loads faults kept old mid new f.digests ref.digest.0 (Err (Missing named)) onward f.visited.loaded more);
       answers = ap (λ (v : Visits). v.refusal) visits ∙ ap (λ d. Some (missing d.0)) (sym answer.0);
     }
 refused_at_the_end alike loads faults kept old mid new table steps path ref (Bad named) onward f answer more = go (get table ref.digest.0) refl answer.1
@@ -155,7 +147,7 @@ refused_at_the_end alike loads faults kept old mid new table steps path ref (Bad
         let visits : visits_of table 1 steps ≡ record { digests = f.digests ++ ref.digest.0 ∷ []; values = []; refusal = Some (bad ref.digest.0) } =
         value-last table steps path f.digests ref (Some text) f.finds e ∙ ap (after_nodes f.digests) (other-value path text ref other) in
         record {
-          leaves = subst (λ (v : Visits). HasLoaded alike loads faults old new (length v.digests)) (sym visits) (loaded_all {X = Bor (List ℕ)} alike loads faults kept old mid new f.digests ref.digest.0 (Err (Bad named)) onward f.visited.loaded more);
+          leaves = subst (λ (v : Visits). HasLoaded alike loads faults old new (length v.digests)) (sym visits) (visited-more {X = Bor (List ℕ)} alike loads faults kept old mid new f.digests ref.digest.0 (Err (Bad named)) onward f.visited.loaded more);
           answers = ap (λ (v : Visits). v.refusal) visits ∙ ap (λ d. Some (bad d.0)) (sym answer.0);
         }
 refused_at_the_end alike loads faults kept old mid new table steps path ref Fault onward f answer more =

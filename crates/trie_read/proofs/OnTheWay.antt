@@ -1,10 +1,9 @@
 -- How far the lookup of a key has come, and what each visit makes of that.
-use Rattle.std.proofs.Common.{◌≡◌, ℕ, ◌+◌, ◌<◌, ◌≤◌, Bool, true, false, List, [], ◌∷◌, ◌++◌, length, map, take, drop, Option, None, Some, Result, Ok, Err, refl, sym, ap, ap₂, ◌∙◌, subst, arith, append_assoc, append-nil, length-append}
+use Rattle.std.proofs.Common.{◌≡◌, ℕ, ◌+◌, ◌<◌, ◌≤◌, Bool, true, false, List, [], ◌∷◌, ◌++◌, length, map, take, drop, Option, None, Some, Ok, Err, refl, sym, ap, ap₂, ◌∙◌, subst, arith, append_assoc, append-nil, length-append}
 use Rattle.std.proofs.lemmas.List.{take-append-drop, take_at, drop_at, length-take-le, map-append}
 use Rattle.std.specs.Prelude.{if◌then◌else◌, nat_eq}
 use Rattle.std.specs.Cmp.Lexicographic.{pointwise}
 use Rattle.trie_model.specs.Root.{Table, zero_digest}
-use Rattle.base_core.specs.Faults.{Rose}
 use Rattle.base_core.specs.declared.hash.Digest.{Digest}
 use Rattle.visit_model.specs.Seen.{Seen, nothing, seen, seen_at, seen_node}
 use Rattle.visit_model.specs.Steps.{Step, no_text, no_node, value, value_steps, lookup_steps}
@@ -13,13 +12,14 @@ use Rattle.node_codec.specs.declared.value_ref.ValueRef as codec
 use Rattle.node_codec.specs.Shown.{value_of}
 use Rattle.text_store.specs.Loading.{Digests}
 use Rattle.text_store.specs.Visiting.{HasLoaded, Remembers}
-use Rattle.text_store.proofs.Visiting.{HasLoaded-none, HasLoaded-then, Remembers-none, Remembers-then}
+use Rattle.text_store.proofs.Visiting.{HasLoaded-none, Remembers-none, Remembers-then}
 use Rattle.trie_read.specs.declared.errors.ReadError.{ReadError}
 use Rattle.trie_read.specs.declared.errors.ReadError.TheVariants.{Missing, Bad, Fault}
 use Rattle.trie_read.specs.declared.lookup.Next.{Next}
 use Rattle.trie_read.specs.declared.lookup.Next.TheVariants.{End, Child}
 use Rattle.trie_read.specs.Lookups.{IsNext, AnswersVisit, Finds, Found, leads_seen, child}
 use Rattle.trie_read.specs.Stores.{Follows, Visited}
+use Rattle.trie_read.proofs.Stores.{visited-more, rose_after}
 use Rattle.trie_read.proofs.There.{seen_at-there, lookup-some}
 use Rattle.trie_read.proofs.Following.{Leading, GoesOn, leading}
 
@@ -129,20 +129,12 @@ at_root alike loads faults kept old table root path itself nonzero = record {
   remembers = Remembers-none (kept old);
 }
 
--- what a visit adds to what was loaded
-visited_more : {S X : Type 0} (alike : S → S → Type 0) (loads faults : S → ℕ) (kept : S → Option Digests) (old mid new : S) (digests : List (List ℕ)) (digest : List ℕ) (result : Result X ReadError) → ((a b c : S) → alike a b → alike b c → alike a c) → HasLoaded alike loads faults old mid (length digests) → Visited alike loads faults kept mid new digest result → HasLoaded alike loads faults old new (length (digests ++ digest ∷ []))
-visited_more alike loads faults kept old mid new digests digest result onward before more =
-    subst (HasLoaded alike loads faults old new) (sym (length-append digests (digest ∷ []))) (HasLoaded-then alike loads faults old mid new (length digests) 1 onward before more.loaded)
-
-rose_after : (a b c : ℕ) → a ≤ b → Rose b c → Rose a c
-rose_after a b c h r = omega arith
-
 pub found_end : {S : Type 0} (alike : S → S → Type 0) (loads faults : S → ℕ) (kept : S → Option Digests) (old mid new : S) (table other : Table) (steps : List Step) (path : List ℕ) (digest : List ℕ) (depth : ℕ) (after_extension : Bool) (found : Option codec.ValueRef) → ((a b c : S) → alike a b → alike b c → alike a c) → other ≡ table → IsAt alike loads faults kept old mid table steps path digest depth after_extension → IsNext other (seen_at other depth after_extension digest) digest depth after_extension (drop depth path) (End found) → Visited {X = Next} alike loads faults kept mid new digest (Ok (End found)) → Found alike loads faults kept old new steps path (Ok found)
 found_end alike loads faults kept old mid new table other steps path digest depth after_extension found onward same at next more = record {
   digests = at.digests ++ digest ∷ [];
   finds = ended table steps path at.digests digest depth after_extension found at.reaches (subst (λ (t : Table). IsNext t (seen_at t depth after_extension digest) digest depth after_extension (drop depth path) (End found)) same next);
   visited = record {
-    loaded = visited_more alike loads faults kept old mid new at.digests digest (Ok (End found)) onward at.loaded more;
+    loaded = visited-more alike loads faults kept old mid new at.digests digest (Ok (End found)) onward at.loaded more;
     follows = Remembers-then (kept old) (kept mid) (kept new) at.digests (digest ∷ []) at.remembers more.follows;
   };
 }
@@ -152,7 +144,7 @@ found_refused alike loads faults kept old mid new table other steps path digest 
   digests = at.digests ++ digest ∷ [];
   finds = refused table steps path at.digests digest depth after_extension error at.reaches (subst (λ (t : Table). AnswersVisit t (seen_at t depth after_extension digest) digest depth after_extension (drop depth path) (Err error)) same answer);
   visited = record {
-    loaded = visited_more alike loads faults kept old mid new at.digests digest (Err error) onward at.loaded more;
+    loaded = visited-more alike loads faults kept old mid new at.digests digest (Err error) onward at.loaded more;
     follows = follows error more.follows;
   };
 }
@@ -168,7 +160,7 @@ found_deeper alike loads faults kept old mid new table other steps path digest d
       record {
         digests = at.digests ++ digest ∷ [];
         reaches = on.reaches;
-        loaded = visited_more alike loads faults kept old mid new at.digests digest (Ok (Child below deeper extended)) onward at.loaded more;
+        loaded = visited-more alike loads faults kept old mid new at.digests digest (Ok (Child below deeper extended)) onward at.loaded more;
         remembers = Remembers-then (kept old) (kept mid) (kept new) at.digests (digest ∷ []) at.remembers more.follows;
       },
       on.below,

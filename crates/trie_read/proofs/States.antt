@@ -24,7 +24,7 @@ one_same path None (Some y) e = cc
 one_same path (Some x) None e = cc
 one_same path (Some x) (Some y) e = ap first_value e
 
-none_some : {X : Type 0} (x : X) (o : Option X) → o ≡ None → o ≡ Some x → ⊥
+pub none_some : {X : Type 0} (x : X) (o : Option X) → o ≡ None → o ≡ Some x → ⊥
 none_some x o e f = let no : None ≡ Some x = sym e ∙ f in cc
 
 -- the value that the visits have, where they are those of a lookup in a state

@@ -24,6 +24,7 @@ use Rattle.trie_read.specs.declared.errors.ReadError.TheVariants.{Missing, Bad, 
 use Rattle.trie_read.specs.Stores.{Visited}
 use Rattle.trie_read.specs.Usages.{Stating, IsStated, AnswersUsage, AnswersTotal}
 use Rattle.trie_read.proofs.Seeing.{seen-none, seen-some}
+use Rattle.trie_read.proofs.States.{none_some}
 use Rattle.trie_read.proofs.There.{seen_at-there, top-some}
 use Rattle.trie_read.proofs.Looked.{visits-some}
 use Rattle.trie_read.proofs.OnTheWay.{root-seen}
@@ -92,9 +93,6 @@ shown-usage tree.nothing = refl
 shown-usage (tree.leaf path held) = refl
 shown-usage (tree.branch held kids) = refl
 shown-usage (tree.extension path below) = refl
-
-none_some : (x : Refusal) (o : Option Refusal) → o ≡ None → o ≡ Some x → ⊥
-none_some x o e f = let no : None ≡ Some x = sym e ∙ f in cc
 
 pub usage-state : (table : Table) (top : List ℕ) (result : Result ℕ ReadError) → AnswersUsage table top result → (state : State) → Holds table state → IsState state → top ≡ root state → AnswersTotal (total state) result
 usage-state table top result answer state holds is top_is =
