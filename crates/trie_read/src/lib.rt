@@ -17,4 +17,6 @@ pub use listing::list;
 pub use usage::usage_of;
 
 #[cfg(test)]
+mod list_tests;
+#[cfg(test)]
 mod tests;

@@ -12,13 +12,17 @@ use std::test::Fail;
 use text_store::{MemNodes, Nodes, Texts};
 
 /// The root of the state with the values a and b under the keys 61 and 62.
-const ROOT: Digest = Digest(
+pub(crate) const ROOT: Digest = Digest(
     *b"\x06\x48\x1f\x83\x91\x8f\x99\xa3\xbe\x48\x5a\x58\x6d\x16\xb5\x6c\x10\xa9\xd5\x78\x35\x3d\x60\xe8\x87\xba\xa5\xf9\xc3\x89\x26\x2e",
 );
 
 /// A store that holds these texts, each under its digest. That takes two calls for each. Calls of
 /// these numbers fail.
-fn holding(alloc: Global, texts: &[&[u8]], fails: &[u64]) -> Result<MemNodes, AllocError> {
+pub(crate) fn holding(
+    alloc: Global,
+    texts: &[&[u8]],
+    fails: &[u64],
+) -> Result<MemNodes, AllocError> {
     let mut store = MemNodes::new(alloc, fails)?;
     for text in texts {
         if store.reserve(1).is_err() {
@@ -33,7 +37,7 @@ fn holding(alloc: Global, texts: &[&[u8]], fails: &[u64]) -> Result<MemNodes, Al
 }
 
 /// The record of a leaf whose value is said to have so many bytes.
-fn leaf(alloc: Global, path: &[u8], size: u32, value: &[u8]) -> Result<Text, AllocError>
+pub(crate) fn leaf(alloc: Global, path: &[u8], size: u32, value: &[u8]) -> Result<Text, AllocError>
     requires nibbles { AreNibbles path.now }
     requires short { length path.now ≤ longest_path }
 {
@@ -45,7 +49,7 @@ fn leaf(alloc: Global, path: &[u8], size: u32, value: &[u8]) -> Result<Text, All
 }
 
 /// The record of an extension above a record.
-fn extension(alloc: Global, path: &[u8], child: &Text) -> Result<Text, AllocError>
+pub(crate) fn extension(alloc: Global, path: &[u8], child: &Text) -> Result<Text, AllocError>
     requires nibbles { AreNibbles path.now }
     requires short { length path.now ≤ longest_path }
 {
@@ -81,15 +85,15 @@ fn expect(
 /// The records of the leaves under 61 and 62, of the branch above them, and of the extension above
 /// that, which is the root.
 #[derive(Drop)]
-struct Records {
-    first: Text,
-    second: Text,
-    branch: Text,
-    root: Text,
+pub(crate) struct Records {
+    pub(crate) first: Text,
+    pub(crate) second: Text,
+    pub(crate) branch: Text,
+    pub(crate) root: Text,
 }
 
 impl Records {
-    fn new(alloc: Global) -> Result<Records, AllocError> {
+    pub(crate) fn new(alloc: Global) -> Result<Records, AllocError> {
         let first = leaf(alloc, &[], 1, b"a")?;
         let second = leaf(alloc, &[], 1, b"b")?;
         let branch = branch(alloc, &first, Some(&second))?;
@@ -103,7 +107,7 @@ impl Records {
     }
 
     /// A store of these records and the two values, which takes twelve calls.
-    fn store(&self, alloc: Global, fails: &[u64]) -> Result<MemNodes, AllocError> {
+    pub(crate) fn store(&self, alloc: Global, fails: &[u64]) -> Result<MemNodes, AllocError> {
         let texts: [&[u8]; 6] = [
             b"a",
             b"b",
