@@ -17,6 +17,8 @@ pub use listing::list;
 pub use usage::usage_of;
 
 #[cfg(test)]
+mod changed_tests;
+#[cfg(test)]
 mod list_tests;
 #[cfg(test)]
 mod tests;
