@@ -68,17 +68,17 @@ def deep_keys(dice, _):
 
 
 def comb_keys(dice, pairs):
-    front = dice.randbytes(LONGEST_KEY - 8)
-    keys = parting_keys(front)
-    return keys + [front + dice.randbytes(8) for _ in range(pairs - len(keys))]
+    prefix = dice.randbytes(LONGEST_KEY - 8)
+    keys = parting_keys(prefix)
+    return keys + [prefix + dice.randbytes(8) for _ in range(pairs - len(keys))]
 
 
-def parting_keys(front):
+def parting_keys(prefix):
     """For each nibble of some bytes a key that parts from them there."""
     keys = []
-    for size, byte in enumerate(front):
-        keys.append(front[:size] + bytes([byte ^ 0x10]))
-        keys.append(front[:size] + bytes([byte ^ 0x01]))
+    for size, byte in enumerate(prefix):
+        keys.append(prefix[:size] + bytes([byte ^ 0x10]))
+        keys.append(prefix[:size] + bytes([byte ^ 0x01]))
     return keys
 
 

@@ -25,9 +25,9 @@ impl<'a> Reader<'a> {
         if n > self.0.len() {
             return None;
         }
-        let (front, rest) = self.0.split_at(n);
+        let (prefix, rest) = self.0.split_at(n);
         self.0 = rest;
-        Some(front)
+        Some(prefix)
     }
 
     fn number(&mut self, bytes: usize) -> Option<u64> {

@@ -19,7 +19,7 @@ def read_script(file):
 
 
 def shared(left, right):
-    """How many nibbles two keys share from the front on."""
+    """How many nibbles two keys share from the start on."""
     size = min(len(left), len(right))
     differ = int.from_bytes(left[:size], "big") ^ int.from_bytes(right[:size], "big")
     return (8 * size - differ.bit_length()) // 4

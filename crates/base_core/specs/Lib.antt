@@ -1,4 +1,4 @@
 pub mod Bounds
 pub mod Faults
-pub mod Held
+pub mod PairMaps
 pub mod Reading

@@ -4,7 +4,7 @@ ghost use Rattle.std.specs.List.{slice_get};
 ghost use Rattle.std.specs.FinMap.{entries, get, empty};
 ghost use Rattle.byte_model.specs.Nibbles.{AreBytes};
 ghost use Rattle.base_core.specs.declared.put_error.PutError.TheVariants.{NoMemory};
-ghost use Rattle.base_core.specs.Held.{IsHeld, laid, refusal, shown, most_pairs};
+ghost use Rattle.base_core.specs.PairMaps.{IsPairMap, laid, refusal, shown_entries, most_pairs};
 
 use crate::put_error::PutError;
 use crate::text::Text;
@@ -25,15 +25,15 @@ pub struct Pairs {
 }
 
 impl Model for Pairs {
-    ghost use Rattle.base_core.specs.Held.{Held, held_code, held_of, IsKept};
+    ghost use Rattle.base_core.specs.PairMaps.{PairMap, pair_map_code, pair_map_of, IsKeptSorted};
 
-    ghost Value = { Held };
+    ghost Value = { PairMap };
 
-    ghost coded = { held_code };
+    ghost coded = { pair_map_code };
 
-    ghost view = { λ p. held_of p.pairs.entries p.most };
+    ghost view = { λ p. pair_map_of p.pairs.entries p.most };
 
-    ghost invariant = { λ p. IsKept p.pairs.entries p.most };
+    ghost invariant = { λ p. IsKeptSorted p.pairs.entries p.most };
 }
 
 impl Pairs {
@@ -87,7 +87,7 @@ impl Pairs {
     /// How many pairs there are. It takes no memory.
     pub fn len(&self) -> u64
         ensures len { result ≡ length (entries self.now.state) }
-        ensures held { IsHeld self.now }
+        ensures held { IsPairMap self.now }
     {
         self.pairs.len() as u64
     }
@@ -114,7 +114,7 @@ impl Pairs {
     /// All pairs, as key and value, in the order of the keys.
     pub fn rows(&self, alloc: Global) -> Result<Vec<(&[u8], &[u8])>, AllocError>
         ensures rows { IfOk result (λ rows. map (λ row. (row.0.now, row.1.now)) rows.items ≡ entries self.now.state) }
-        ensures held { IsHeld self.now }
+        ensures held { IsPairMap self.now }
     {
         rows_of(alloc, &self.pairs)
     }
@@ -122,7 +122,7 @@ impl Pairs {
 
 fn pair_at(pairs: &BTreeMap<Vec<u8>, Text>, place: usize) -> (&[u8], &[u8])
     requires { place < length pairs.now.entries }
-    ensures { slice_get (shown pairs.now.entries) place ≡ Some (result.0.now, result.1.now) }
+    ensures { slice_get (shown_entries pairs.now.entries) place ≡ Some (result.0.now, result.1.now) }
 {
     match pairs.iter().nth(place) {
         Some((key, value)) => (key.as_slice(), value.as_slice()),
@@ -134,7 +134,7 @@ fn rows_of(
     alloc: Global,
     pairs: &BTreeMap<Vec<u8>, Text>,
 ) -> Result<Vec<(&[u8], &[u8])>, AllocError>
-    ensures { IfOk result (λ rows. map (λ row. (row.0.now, row.1.now)) rows.items ≡ shown pairs.now.entries) }
+    ensures { IfOk result (λ rows. map (λ row. (row.0.now, row.1.now)) rows.items ≡ shown_entries pairs.now.entries) }
 {
     let mut rows = Vec::with_capacity(alloc, pairs.len())?;
     for (key, value) in pairs {

@@ -5,7 +5,7 @@ use Rattle.byte_model.specs.Borsh.{borsh_u16, borsh_u32, borsh_u64, borsh_bytes}
 use Rattle.byte_model.specs.Below.{sum_below, joined_below}
 use Rattle.byte_model.specs.Nibbles.{AreNibbles}
 use Rattle.byte_model.specs.PackedPath.{packed}
-use Rattle.byte_model.specs.Node.{ValueRef, Node, leaf, branch, extension, spelled_value, child_bit, child_digest, spelled_kids, spelled}
+use Rattle.byte_model.specs.Node.{ValueRef, Node, leaf, branch, extension, spelled_value, child_bit, child_digest, spelled_children, spelled}
 use Rattle.byte_model.specs.Laws.{IsDigest, NamesValue, FitsRecord, SameNode}
 use Rattle.byte_model.proofs.Widths.{length-borsh_u16, length-borsh_u32, length-borsh_u64, borsh_u16-same, borsh_u32-same, borsh_u64-same}
 use Rattle.byte_model.proofs.Paths.{packed-same}
@@ -16,13 +16,13 @@ first_same e = cc
 rest_same : {x y : ℕ} {xs ys : List ℕ} → x ∷ xs ≡ y ∷ ys → xs ≡ ys
 rest_same e = cc
 
--- two lists joined are told apart where the fronts are as long
-pub split_front : (xs ys us vs : List ℕ) → length xs ≡ length ys → xs ++ us ≡ ys ++ vs → (xs ≡ ys) × (us ≡ vs)
-split_front [] [] us vs same e = (refl, e)
-split_front [] (y ∷ ys) us vs same e = absurd (omega arith)
-split_front (x ∷ xs) [] us vs same e = absurd (omega arith)
-split_front (x ∷ xs) (y ∷ ys) us vs same e =
-    let further = split_front xs ys us vs (omega arith) (rest_same e) in
+-- two lists joined are told apart where the prefixes are as long
+pub split_prefix : (xs ys us vs : List ℕ) → length xs ≡ length ys → xs ++ us ≡ ys ++ vs → (xs ≡ ys) × (us ≡ vs)
+split_prefix [] [] us vs same e = (refl, e)
+split_prefix [] (y ∷ ys) us vs same e = absurd (omega arith)
+split_prefix (x ∷ xs) [] us vs same e = absurd (omega arith)
+split_prefix (x ∷ xs) (y ∷ ys) us vs same e =
+    let further = split_prefix xs ys us vs (omega arith) (rest_same e) in
     (ap₂ (λ (n : ℕ) (ns : List ℕ). n ∷ ns) (first_same e) further.0, further.1)
 
 -- and where the ends are
@@ -31,26 +31,26 @@ split_end xs ys us vs same e =
     let left = length-append xs us in
     let right = length-append ys vs in
     let whole = ap length e in
-    split_front xs ys us vs (omega arith) e
+    split_prefix xs ys us vs (omega arith) e
 
 -- ---- values
 
 length-spelled_value : (value : ValueRef) → IsDigest value.digest → length (spelled_value value) ≡ 36
 length-spelled_value value h =
-    let n = length-append (borsh_u32 value.size) value.digest in
-    let four = length-borsh_u32 value.size in
+    let n = length-append (borsh_u32 value.length) value.digest in
+    let four = length-borsh_u32 value.length in
     omega arith
 
 spelled_value-same : (v w : ValueRef) → NamesValue v → NamesValue w → spelled_value v ≡ spelled_value w → v ≡ w
 spelled_value-same v w h k e =
-    let parts = split_front (borsh_u32 v.size) (borsh_u32 w.size) v.digest w.digest (length-borsh_u32 v.size ∙ sym (length-borsh_u32 w.size)) e in
-    let size = borsh_u32-same v.size w.size h.0 k.0 parts.0 in
-    λ i. record { size = size i; digest = parts.1 i }
+    let parts = split_prefix (borsh_u32 v.length) (borsh_u32 w.length) v.digest w.digest (length-borsh_u32 v.length ∙ sym (length-borsh_u32 w.length)) e in
+    let length = borsh_u32-same v.length w.length h.0 k.0 parts.0 in
+    λ i. record { length = size i; digest = parts.1 i }
 
 -- ---- paths
 
 vector_same : (p q : List ℕ) → borsh_bytes p ≡ borsh_bytes q → p ≡ q
-vector_same p q e = (split_front (borsh_u32 (length p)) (borsh_u32 (length q)) p q (length-borsh_u32 (length p) ∙ sym (length-borsh_u32 (length q))) e).1
+vector_same p q e = (split_prefix (borsh_u32 (length p)) (borsh_u32 (length q)) p q (length-borsh_u32 (length p) ∙ sym (length-borsh_u32 (length q))) e).1
 
 -- ---- children
 
@@ -106,11 +106,11 @@ digests_same f g (suc n) there fits fits' e x h =
       | inr r ↦ let same : n ≡ x = omega arith in subst (λ y. f y ≡ g y) same (child_same (f n) (g n) here parts.1)
     ]
 
-pub spelled_kids-same : (f g : ℕ → Option (List ℕ)) → ((x : ℕ) → x < 16 → IfSome (f x) IsDigest) → ((x : ℕ) → x < 16 → IfSome (g x) IsDigest) → spelled_kids f ≡ spelled_kids g → (x : ℕ) → x < 16 → f x ≡ g x
-unfolding spelled_kids
-spelled_kids-same f g fits fits' e =
+pub spelled_children-same : (f g : ℕ → Option (List ℕ)) → ((x : ℕ) → x < 16 → IfSome (f x) IsDigest) → ((x : ℕ) → x < 16 → IfSome (g x) IsDigest) → spelled_children f ≡ spelled_children g → (x : ℕ) → x < 16 → f x ≡ g x
+unfolding spelled_children
+spelled_children-same f g fits fits' e =
     let bitmap : (ℕ → Option (List ℕ)) → ℕ = λ kids. sum_below (child_bit kids) 16 in
-    let parts = split_front (borsh_u16 (bitmap f)) (borsh_u16 (bitmap g)) _ _ (length-borsh_u16 (bitmap f) ∙ sym (length-borsh_u16 (bitmap g))) e in
+    let parts = split_prefix (borsh_u16 (bitmap f)) (borsh_u16 (bitmap g)) _ _ (length-borsh_u16 (bitmap f) ∙ sym (length-borsh_u16 (bitmap g))) e in
     let there = bits_same f g 16 (borsh_u16-same (bitmap f) (bitmap g) (bits-lt f 16) (bits-lt g 16) parts.0) in
     digests_same f g 16 there fits fits' parts.1
 
@@ -126,8 +126,8 @@ ordinal (extension path child) = 3
 without_ordinal : (node : Node) (usage : ℕ) → (rest : List ℕ) × (spelled node usage ≡ ordinal node ∷ rest)
 unfolding spelled
 without_ordinal (leaf path value) usage = (borsh_bytes (packed true path) ++ spelled_value value ++ borsh_u64 usage, refl)
-without_ordinal (branch None kids) usage = (spelled_kids kids ++ borsh_u64 usage, refl)
-without_ordinal (branch (Some value) kids) usage = (spelled_value value ++ spelled_kids kids ++ borsh_u64 usage, refl)
+without_ordinal (branch None kids) usage = (spelled_children kids ++ borsh_u64 usage, refl)
+without_ordinal (branch (Some value) kids) usage = (spelled_value value ++ spelled_children kids ++ borsh_u64 usage, refl)
 without_ordinal (extension path child) usage = (borsh_bytes (packed false path) ++ child ++ borsh_u64 usage, refl)
 
 ordinal_same : (m n : Node) (u v : ℕ) → spelled m u ≡ spelled n v → ordinal m ≡ ordinal n
@@ -147,11 +147,11 @@ extension_same p q child other h k digest digest' e =
     let parts = split_end (3 ∷ borsh_bytes (packed false p)) (3 ∷ borsh_bytes (packed false q)) child other (digest ∙ sym digest') e in
     ((packed-same false false p q h k (vector_same (packed false p) (packed false q) (rest_same parts.0))).1, parts.1)
 
-branch_same : (v w : ValueRef) (f g : ℕ → Option (List ℕ)) → NamesValue v → NamesValue w → (2 ∷ spelled_value v) ++ spelled_kids f ≡ (2 ∷ spelled_value w) ++ spelled_kids g → (v ≡ w) × (spelled_kids f ≡ spelled_kids g)
+branch_same : (v w : ValueRef) (f g : ℕ → Option (List ℕ)) → NamesValue v → NamesValue w → (2 ∷ spelled_value v) ++ spelled_children f ≡ (2 ∷ spelled_value w) ++ spelled_children g → (v ≡ w) × (spelled_children f ≡ spelled_children g)
 branch_same v w f g small small' e =
     let one = length-spelled_value v small.1 in
     let two = length-spelled_value w small'.1 in
-    let parts = split_front (2 ∷ spelled_value v) (2 ∷ spelled_value w) (spelled_kids f) (spelled_kids g) (omega arith) e in
+    let parts = split_prefix (2 ∷ spelled_value v) (2 ∷ spelled_value w) (spelled_children f) (spelled_children g) (omega arith) e in
     (spelled_value-same v w small small' (rest_same parts.0), parts.1)
 
 -- nodes of one kind
@@ -161,12 +161,12 @@ same_kind (leaf p v) (leaf q w) a b o h k e =
     let parts = usage_apart ((0 ∷ borsh_bytes (packed true p)) ++ spelled_value v) ((0 ∷ borsh_bytes (packed true q)) ++ spelled_value w) a b e in
     (leaf_same p q v w h.0 k.0 h.1 k.1 parts.0, parts.1)
 same_kind (branch None f) (branch None g) a b o h k e =
-    let parts = usage_apart (1 ∷ spelled_kids f) (1 ∷ spelled_kids g) a b e in
-    ((refl, spelled_kids-same f g h.1 k.1 (rest_same parts.0)), parts.1)
+    let parts = usage_apart (1 ∷ spelled_children f) (1 ∷ spelled_children g) a b e in
+    ((refl, spelled_children-same f g h.1 k.1 (rest_same parts.0)), parts.1)
 same_kind (branch (Some v) f) (branch (Some w) g) a b o h k e =
-    let parts = usage_apart ((2 ∷ spelled_value v) ++ spelled_kids f) ((2 ∷ spelled_value w) ++ spelled_kids g) a b e in
+    let parts = usage_apart ((2 ∷ spelled_value v) ++ spelled_children f) ((2 ∷ spelled_value w) ++ spelled_children g) a b e in
     let node = branch_same v w f g h.0 k.0 parts.0 in
-    ((ap (λ (r : ValueRef). Some r) node.0, spelled_kids-same f g h.1 k.1 node.1), parts.1)
+    ((ap (λ (r : ValueRef). Some r) node.0, spelled_children-same f g h.1 k.1 node.1), parts.1)
 same_kind (extension p child) (extension q other) a b o h k e =
     let parts = usage_apart ((3 ∷ borsh_bytes (packed false p)) ++ child) ((3 ∷ borsh_bytes (packed false q)) ++ other) a b e in
     (extension_same p q child other h.0 k.0 h.1 k.1 parts.0, parts.1)

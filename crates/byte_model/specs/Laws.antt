@@ -9,7 +9,7 @@ IsDigest digest = length digest ≡ 32
 
 -- the length fits four bytes
 abbrev pub NamesValue : ValueRef → Type 0
-NamesValue value = (value.size < 2 ^ 32) × IsDigest value.digest
+NamesValue value = (value.length < 2 ^ 32) × IsDigest value.digest
 
 -- a node whose parts fit their fields
 abbrev pub FitsRecord : Node → Type 0
@@ -20,6 +20,6 @@ FitsRecord (extension path child) = AreNibbles path × IsDigest child
 -- the same node: of a branch, what it has at the sixteen nibbles
 abbrev pub SameNode : Node → Node → Type 0
 SameNode (leaf path value) (leaf other_path other_value) = (path ≡ other_path) × (value ≡ other_value)
-SameNode (branch value kids) (branch other_value other_kids) = (value ≡ other_value) × ((x : ℕ) → x < 16 → kids x ≡ other_kids x)
+SameNode (branch value kids) (branch other_value other_children) = (value ≡ other_value) × ((x : ℕ) → x < 16 → kids x ≡ other_children x)
 SameNode (extension path child) (extension other_path other_child) = (path ≡ other_path) × (child ≡ other_child)
 SameNode _ _ = ⊥

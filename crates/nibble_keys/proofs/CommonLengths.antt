@@ -25,9 +25,9 @@ common-low xs ys n common left right same = record {
   shared =
       let in_xs : 2 * n < length (nibbles xs) = omega (arith, length-nibbles xs) in
       let in_ys : 2 * n < length (nibbles ys) = omega (arith, length-nibbles ys) in
-      let front : take (2 * n) (nibbles xs) ≡ take (2 * n) (nibbles ys) = take-nibbles xs n ∙ ap nibbles common.shared ∙ sym (take-nibbles ys n) in
+      let prefix : take (2 * n) (nibbles xs) ≡ take (2 * n) (nibbles ys) = take-nibbles xs n ∙ ap nibbles common.shared ∙ sym (take-nibbles ys n) in
       let here : get_or (nibbles xs) (2 * n) 0 ≡ get_or (nibbles ys) (2 * n) 0 = get_or-nibbles_high xs n ∙ same ∙ sym (get_or-nibbles_high ys n) in
-      take_more (nibbles xs) (2 * n) 0 in_xs ∙ (ap (λ path. path ++ get_or (nibbles xs) (2 * n) 0 ∷ []) front ∙ (ap (λ nibble. take (2 * n) (nibbles ys) ++ nibble ∷ []) here ∙ sym (take_more (nibbles ys) (2 * n) 0 in_ys)));
+      take_more (nibbles xs) (2 * n) 0 in_xs ∙ (ap (λ path. path ++ get_or (nibbles xs) (2 * n) 0 ∷ []) prefix ∙ (ap (λ nibble. take (2 * n) (nibbles ys) ++ nibble ∷ []) here ∙ sym (take_more (nibbles ys) (2 * n) 0 in_ys)));
   longest = λ _ _ low_same.
       let lows : get_or xs n 0 % 16 ≡ get_or ys n 0 % 16 = sym (get_or-nibbles_low xs n) ∙ low_same ∙ get_or-nibbles_low ys n in
       common.longest left right (omega (arith, lows, same));

@@ -1,4 +1,4 @@
--- How far two lists of numbers agree from the front on.
+-- How far two lists of numbers agree from the start on.
 use Rattle.std.specs.Prelude.{ℕ, ◌<◌, ◌≤◌, ◌≡◌, ◌≢◌, List, length, take, slice_index}
 
 -- n is the length of their longest common prefix

@@ -89,7 +89,7 @@ impl<'a> Nibbles<'a> {
     }
 }
 
-/// How many nibbles two keys share from the front on.
+/// How many nibbles two keys share from the start on.
 fn common_of_keys(left: &[u8], right: &[u8]) -> u64
     ensures { IsCommonLength (nibbles left.now) (nibbles right.now) result }
 {

@@ -6,8 +6,8 @@ use Rattle.std.proofs.Math.Pow.{pow-lt, pow_mono}
 use Rattle.std.proofs.lemmas.Nat.{mod-pow-add, and_mask}
 use Rattle.std.proofs.lemmas.Bool.{cases_lt}
 use Rattle.byte_model.specs.Below.{sum_below}
-use Rattle.byte_model.specs.Node.{kid_count}
-use Rattle.record_model.specs.Records.{bit, bits_below, kid_in}
+use Rattle.byte_model.specs.Node.{child_count}
+use Rattle.record_model.specs.Records.{bit, bits_below, child_in}
 
 bit-small : (bitmap i : ℕ) → bit bitmap i < 2
 bit-small bitmap i = omega arith
@@ -41,15 +41,15 @@ bits_below-more bitmap m (suc n) h =
     ]
 
 -- a child is there where its bit is set
-kid-bit : (bitmap : ℕ) (digests : List ℕ) (i b : ℕ) → b < 2 → (if is_some (if b == 1 then Some (take 32 (drop (32 * bits_below bitmap i) digests)) else None) then 1 else 0) ≡ b
-kid-bit bitmap digests i zero h = refl
-kid-bit bitmap digests i (suc zero) h = refl
-kid-bit bitmap digests i (suc (suc b)) h = absurd (omega arith)
+child-bit : (bitmap : ℕ) (digests : List ℕ) (i b : ℕ) → b < 2 → (if is_some (if b == 1 then Some (take 32 (drop (32 * bits_below bitmap i) digests)) else None) then 1 else 0) ≡ b
+child-bit bitmap digests i zero h = refl
+child-bit bitmap digests i (suc zero) h = refl
+child-bit bitmap digests i (suc (suc b)) h = absurd (omega arith)
 
-kids-bits : (bitmap : ℕ) (digests : List ℕ) (n : ℕ) → sum_below (λ i. if is_some (kid_in bitmap digests i) then 1 else 0) n ≡ bits_below bitmap n
+kids-bits : (bitmap : ℕ) (digests : List ℕ) (n : ℕ) → sum_below (λ i. if is_some (child_in bitmap digests i) then 1 else 0) n ≡ bits_below bitmap n
 unfolding sum_below
 kids-bits bitmap digests zero = refl
-kids-bits bitmap digests (suc n) = ap₂ (λ x y. x + y) (kids-bits bitmap digests n) (kid-bit bitmap digests n (bit bitmap n) (bit-small bitmap n))
+kids-bits bitmap digests (suc n) = ap₂ (λ x y. x + y) (kids-bits bitmap digests n) (child-bit bitmap digests n (bit bitmap n) (bit-small bitmap n))
 
 -- all bits of a bitmap of sixteen
 pub ones-all : (bitmap : ℕ) → bitmap < 2 ^ 16 → ones bitmap ≡ bits_below bitmap 16
@@ -58,8 +58,8 @@ ones-all bitmap h =
     sym (ap ones whole) ∙ ones-below bitmap 16
 
 -- The children are as many as the bits.
-pub kid_count-bits : (bitmap : ℕ) (digests : List ℕ) → bits_below bitmap 16 ≡ kid_count (kid_in bitmap digests)
-kid_count-bits bitmap digests = sym (kids-bits bitmap digests 16)
+pub child_count-bits : (bitmap : ℕ) (digests : List ℕ) → bits_below bitmap 16 ≡ child_count (child_in bitmap digests)
+child_count-bits bitmap digests = sym (kids-bits bitmap digests 16)
 
 -- what `&` leaves of a bitmap
 pub ones-masked : (bitmap i : ℕ) → i < 16 → ones (bit_and bitmap (1 * 2 ^ i % 65536 - 1)) ≡ bits_below bitmap i

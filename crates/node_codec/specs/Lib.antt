@@ -1,4 +1,4 @@
-pub mod Shown
+pub mod Meanings
 pub mod Children
 pub mod Views
 pub mod Layouts

@@ -5,17 +5,17 @@ use Rattle.byte_model.specs.Node.{Node, leaf, branch, extension}
 use Rattle.record_model.specs.Records.{RecordFault, frame, pack, shape}
 use Rattle.base_core.specs.Reading as base
 use Rattle.nibble_keys.specs.Unpacking as path
-use Rattle.node_codec.specs.Shown.{value_of}
-use Rattle.node_codec.specs.Children.{kids_seen}
+use Rattle.node_codec.specs.Meanings.{value_of}
+use Rattle.node_codec.specs.Children.{children_viewed}
 use Rattle.node_codec.specs.declared.node_error.NodeError.{NodeError}
 use Rattle.node_codec.specs.declared.node_error.NodeError.TheVariants.{Frame, Path, Shape}
 use Rattle.node_codec.specs.declared.node_view.NodeView.{NodeView}
 use Rattle.node_codec.specs.declared.node_view.NodeView.TheVariants.{Leaf, Branch, Extension}
 
-abbrev pub node_seen : NodeView → Node
-node_seen (Leaf path value) = leaf path (value_of value)
-node_seen (Branch value kids) = branch (option_map value_of value) (kids_seen kids)
-node_seen (Extension path child) = extension path child.0
+abbrev pub node_viewed : NodeView → Node
+node_viewed (Leaf path value) = leaf path (value_of value)
+node_viewed (Branch value kids) = branch (option_map value_of value) (children_viewed kids)
+node_viewed (Extension path child) = extension path child.0
 
 abbrev pub fault_of : NodeError → RecordFault
 fault_of (Frame e) = frame (base.fault_of e)

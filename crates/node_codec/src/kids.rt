@@ -1,6 +1,6 @@
 ghost use Rattle.std.specs.Prelude.{◌≡◌, ◌<◌, ◌≤◌, length, slice_index_or, slice_set};
-ghost use Rattle.byte_model.specs.Node.{kid_count};
-ghost use Rattle.node_codec.specs.Shown.{kids_of};
+ghost use Rattle.byte_model.specs.Node.{child_count};
+ghost use Rattle.node_codec.specs.Meanings.{children_in};
 
 use base_core::Digest;
 use std::marker::Model;
@@ -46,9 +46,9 @@ impl Kids {
 
     /// How many children there are.
     pub fn count(&self) -> u64
-        ensures value { result ≡ kid_count (kids_of self.now) }
+        ensures value { result ≡ child_count (children_in self.now) }
         ensures few { result ≤ 16 }
     {
-        self.digests.iter().filter(|kid| kid.is_some()).count() as u64
+        self.digests.iter().filter(|child| child.is_some()).count() as u64
     }
 }

@@ -1,8 +1,8 @@
 ghost use Rattle.std.specs.Prelude.{◌≡◌, ◌+◌, ◌*◌, ◌<◌, ◌≤◌, ◌==◌, length, take, drop};
 ghost use Rattle.std.specs.Option.{option_map};
-ghost use Rattle.byte_model.specs.Node.{kid_count};
+ghost use Rattle.byte_model.specs.Node.{child_count};
 ghost use Rattle.record_model.specs.Records.{bit, bits_below};
-ghost use Rattle.node_codec.specs.Children.{kids_seen};
+ghost use Rattle.node_codec.specs.Children.{children_viewed};
 
 use base_core::Digest;
 use std::marker::Model;
@@ -41,7 +41,7 @@ impl<'a> KidsView<'a> {
     /// The child at a nibble.
     pub fn get(&self, i: u8) -> Option<Digest>
         requires { i < 16 }
-        ensures { option_map (λ digest. digest.0) result ≡ kids_seen self.now i }
+        ensures { option_map (λ digest. digest.0) result ≡ children_viewed self.now i }
     {
         if !has_bit(self.bitmap, i) {
             return None;
@@ -52,7 +52,7 @@ impl<'a> KidsView<'a> {
 
     /// How many children there are.
     pub fn count(&self) -> u64
-        ensures value { result ≡ kid_count (kids_seen self.now) }
+        ensures value { result ≡ child_count (children_viewed self.now) }
         ensures few { result ≤ 16 }
     {
         bit_count(self.bitmap)

@@ -1,9 +1,9 @@
 ghost use Rattle.std.specs.Prelude.{◌≡◌, ◌*◌, ◌≤◌, length, IfOk};
 ghost use Rattle.record_model.specs.Fields.{bytes_at, digests_at};
-ghost use Rattle.record_model.specs.Records.{value_at, kids_at, leaf_at, branch_at, branch_with_value_at, extension_at, kind_at, layout_at, layout_of};
+ghost use Rattle.record_model.specs.Records.{value_at, children_at, leaf_at, branch_at, branch_with_value_at, extension_at, kind_at, layout_at, layout_of};
 ghost use Rattle.base_core.specs.Reading.{Answers, Follows};
-ghost use Rattle.node_codec.specs.Shown.{value_of};
-ghost use Rattle.node_codec.specs.Layouts.{layout_seen, kids_pair};
+ghost use Rattle.node_codec.specs.Meanings.{value_of};
+ghost use Rattle.node_codec.specs.Layouts.{layout_seen, children_pair};
 
 use crate::kids_view::{KidsView, bit_count};
 use crate::ordinals::{BRANCH, BRANCH_WITH_VALUE, EXTENSION, LEAF};
@@ -71,7 +71,7 @@ fn read_leaf<'a>(reader: &mut Reader<'a>) -> Result<Layout<'a>, BorshError>
 fn read_branch<'a>(reader: &mut Reader<'a>) -> Result<Layout<'a>, BorshError>
     ensures { Follows layout_seen result reader.old reader.new branch_at }
 {
-    let kids = read_kids(reader)?;
+    let kids = read_children(reader)?;
     Ok(Layout::Branch { value: None, kids })
 }
 
@@ -80,7 +80,7 @@ fn read_branch_with_value<'a>(reader: &mut Reader<'a>) -> Result<Layout<'a>, Bor
     ensures { Follows layout_seen result reader.old reader.new branch_with_value_at }
 {
     let value = read_value(reader)?;
-    let kids = read_kids(reader)?;
+    let kids = read_children(reader)?;
     Ok(Layout::Branch {
         value: Some(value),
         kids,
@@ -105,9 +105,9 @@ fn read_value(reader: &mut Reader<'_>) -> Result<ValueRef, BorshError>
     Ok(ValueRef { length, digest })
 }
 
-#[tactic(auto, unfolding(record_model::specs::Records::kids_at))]
-fn read_kids<'a>(reader: &mut Reader<'a>) -> Result<KidsView<'a>, BorshError>
-    ensures { Follows kids_pair result reader.old reader.new kids_at }
+#[tactic(auto, unfolding(record_model::specs::Records::children_at))]
+fn read_children<'a>(reader: &mut Reader<'a>) -> Result<KidsView<'a>, BorshError>
+    ensures { Follows children_pair result reader.old reader.new children_at }
 {
     let bitmap = reader.u16()?;
     let digests = read_digests(reader, bit_count(bitmap))?;

@@ -1,6 +1,6 @@
 ghost use Rattle.std.specs.Prelude.{◌≡◌};
 ghost use Rattle.record_model.specs.Records.{has_shape};
-ghost use Rattle.node_codec.specs.Views.{node_seen};
+ghost use Rattle.node_codec.specs.Views.{node_viewed};
 
 use crate::kids_view::KidsView;
 use crate::value_ref::ValueRef;
@@ -34,7 +34,7 @@ impl NodeView<'_> {
     /// What a node of any place keeps to: a value within the limit, a branch with two of children
     /// and value at least, an extension that is not empty. It takes no memory.
     pub fn is_shaped(&self) -> bool
-        ensures { result ≡ has_shape (node_seen self.now) }
+        ensures { result ≡ has_shape (node_viewed self.now) }
     {
         match self {
             NodeView::Leaf { value, .. } => value.length <= LONGEST_VALUE,

@@ -4,7 +4,7 @@ ghost use Rattle.byte_model.specs.Node.{Node};
 ghost use Rattle.byte_model.specs.Laws.{SameNode};
 ghost use Rattle.record_model.specs.Records.{IsRecord, record_in, node_in, suited};
 ghost use Rattle.node_codec.specs.Layouts.{layout_seen};
-ghost use Rattle.node_codec.specs.Views.{Gives, node_seen};
+ghost use Rattle.node_codec.specs.Views.{Gives, node_viewed};
 
 use crate::layout::{Layout, read_layout};
 use crate::node_error::NodeError;
@@ -15,18 +15,18 @@ use nibble_keys::{PackError, Packed};
 /// takes no memory, and accepts exactly the one spelling of each node (`write_node` gives it).
 pub fn read_node(bytes: &[u8]) -> Result<(NodeView<'_>, u64), NodeError>
     // What is read is spelled so.
-    ensures found { IfOk result (λ r. IsRecord (node_seen r.0) r.1 bytes.now) }
+    ensures found { IfOk result (λ r. IsRecord (node_viewed r.0) r.1 bytes.now) }
     // What is spelled so is read.
-    ensures only { (node : Node) (usage : ℕ) → IsRecord node usage bytes.now → IsOkAnd result (λ r. SameNode (node_seen r.0) node × (r.1 ≡ usage)) }
+    ensures only { (node : Node) (usage : ℕ) → IsRecord node usage bytes.now → IsOkAnd result (λ r. SameNode (node_viewed r.0) node × (r.1 ≡ usage)) }
     // What is wrong first.
-    ensures exact { Gives (λ r. (node_seen r.0, r.1)) result (record_in bytes.now) }
+    ensures exact { Gives (λ r. (node_viewed r.0, r.1)) result (record_in bytes.now) }
 {
     read_record(bytes)
 }
 
 #[tactic(auto, unfolding(record_model::specs::Records::record_in))]
 fn read_record(bytes: &[u8]) -> Result<(NodeView<'_>, u64), NodeError>
-    ensures read { Gives (λ r. (node_seen r.0, r.1)) result (record_in bytes.now) }
+    ensures read { Gives (λ r. (node_viewed r.0, r.1)) result (record_in bytes.now) }
     ensures bytes { AreBytes bytes.now }
 {
     match read_layout(bytes) {
@@ -41,7 +41,7 @@ fn read_record(bytes: &[u8]) -> Result<(NodeView<'_>, u64), NodeError>
 /// The node of a record's fields.
 #[tactic(auto, unfolding(record_model::specs::Records::node_in, record_model::specs::Records::shaped))]
 fn read_fields(layout: Layout<'_>) -> Result<NodeView<'_>, NodeError>
-    ensures { Gives node_seen result (node_in (layout_seen layout.entry)) }
+    ensures { Gives node_viewed result (node_in (layout_seen layout.entry)) }
 {
     let node = match layout {
         Layout::Leaf { packed, value } => NodeView::Leaf {

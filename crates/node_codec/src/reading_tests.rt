@@ -112,7 +112,7 @@ fn leaves_that_are_read(rt: HostRuntime) -> Result<(), Fail> {
 }
 
 /// The same child, or none, at each nibble.
-fn expect_kids(rt: &impl Abort, kids: &KidsView<'_>, want: &Kids) {
+fn expect_children(rt: &impl Abort, kids: &KidsView<'_>, want: &Kids) {
     assert_eq!(rt; kids.count(), want.count());
     for i in 0..16 {
         assert_eq!(rt; kids.get(i), want.get(i));
@@ -125,7 +125,7 @@ fn expect_branch(rt: &impl Abort, record: &Text, value: Option<ValueRef>, want: 
     match node {
         NodeView::Branch { value: named, kids } => {
             assert_eq!(rt; named, value);
-            expect_kids(rt, &kids, want);
+            expect_children(rt, &kids, want);
         }
         _ => panic!(rt; "no branch"),
     }
@@ -188,9 +188,9 @@ fn expect_cuts(rt: &impl Abort, record: &Text, places: &[u64]) {
         if places.contains(&(length as u64)) {
             at = length as u64;
         }
-        let (front, _) = bytes.split_at(length);
+        let (prefix, _) = bytes.split_at(length);
         let error = NodeError::Frame(BorshError::Short { at });
-        assert_eq!(rt; read_node(front).err(), Some(error), "{length}");
+        assert_eq!(rt; read_node(prefix).err(), Some(error), "{length}");
     }
 }
 
@@ -222,14 +222,14 @@ fn expect_refused(
 fn expect_leaf_refused(
     rt: &impl Abort,
     alloc: Global,
-    front: &[u8],
+    prefix: &[u8],
     back: &[u8],
     error: NodeError,
 ) -> Result<(), Fail> {
     expect_refused(
         rt,
         alloc,
-        &[front, b"\0\0\0\0", &NOTHING.0, USAGE, back],
+        &[prefix, b"\0\0\0\0", &NOTHING.0, USAGE, back],
         error,
     )
 }

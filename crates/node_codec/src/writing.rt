@@ -4,8 +4,8 @@ ghost use Rattle.byte_model.specs.Below.{sum_below};
 ghost use Rattle.byte_model.specs.Borsh.{borsh_bytes};
 ghost use Rattle.byte_model.specs.Nibbles.{AreNibbles};
 ghost use Rattle.byte_model.specs.PackedPath.{packed, longest_path};
-ghost use Rattle.byte_model.specs.Node.{spelled, spelled_value, spelled_kids, child_bit, IsShaped, leaf, branch, extension};
-ghost use Rattle.node_codec.specs.Shown.{value_of, kids_of, node_of, path_of};
+ghost use Rattle.byte_model.specs.Node.{spelled, spelled_value, spelled_children, child_bit, IsShaped, leaf, branch, extension};
+ghost use Rattle.node_codec.specs.Meanings.{value_of, children_in, node_of, path_of};
 
 use crate::kids::Kids;
 use crate::node::Node;
@@ -68,7 +68,7 @@ pub fn write_branch(
     kids: &Kids,
     usage: u64,
 ) -> Result<Text, AllocError>
-    ensures { IfOk result (λ text. text ≡ spelled (branch (option_map value_of value.now) (kids_of kids.now)) usage) }
+    ensures { IfOk result (λ text. text ≡ spelled (branch (option_map value_of value.now) (children_in kids.now)) usage) }
 {
     let value_bytes = if value.is_some() { VALUE_BYTES } else { 0 };
     let size = 1 + value_bytes + 2 + DIGEST_BYTES * kids.count() as usize + USAGE_BYTES;
@@ -80,7 +80,7 @@ pub fn write_branch(
             put_value(&mut writer, value)?;
         }
     }
-    put_kids(&mut writer, kids)?;
+    put_children(&mut writer, kids)?;
     writer.put_u64(usage)?;
     Ok(writer.into_text())
 }
@@ -123,8 +123,8 @@ fn put_value(writer: &mut Writer, value: &ValueRef) -> Result<(), AllocError>
     writer.put_raw(&value.digest.0)
 }
 
-fn put_kids(writer: &mut Writer, kids: &Kids) -> Result<(), AllocError>
-    ensures { OnOk result (writer.new ≡ writer.old ++ spelled_kids (kids_of kids.now)) }
+fn put_children(writer: &mut Writer, kids: &Kids) -> Result<(), AllocError>
+    ensures { OnOk result (writer.new ≡ writer.old ++ spelled_children (children_in kids.now)) }
 {
     writer.put_u16(bitmap(kids))?;
     for i in 0..16 {
@@ -137,7 +137,7 @@ fn put_kids(writer: &mut Writer, kids: &Kids) -> Result<(), AllocError>
 
 /// Bit i, where bit 0 is the lowest, tells whether child i is there.
 fn bitmap(kids: &Kids) -> u16
-    ensures { result ≡ sum_below (child_bit (kids_of kids.now)) 16 }
+    ensures { result ≡ sum_below (child_bit (children_in kids.now)) 16 }
 {
     let mut bits = 0;
     for i in 0..16 {

@@ -12,7 +12,7 @@ abbrev place_of : {X : Type 0} → Read X → ℕ
 place_of (Ok r) = r.1.at
 place_of (Err e) = 0
 
--- what fits was taken from the front
+-- what fits was taken from the prefix
 abbrev Took : {X : Type 0} → (X → List ℕ) → (X → Type 0) → Cursor → X × Cursor → Type 0
 Took spell Fits c r = Fits r.0 × Takes c (spell r.0) r.1
 

@@ -5,11 +5,11 @@ use Rattle.std.proofs.lemmas.List.{take_all}
 use Rattle.std.proofs.lemmas.Nat.{mod-pow-add, mod_below, pow_pos}
 use Rattle.byte_model.specs.Below.{sum_below, joined_below}
 use Rattle.byte_model.specs.Borsh.{borsh_u16}
-use Rattle.byte_model.specs.Node.{child_bit, child_digest, spelled_kids, kid_count}
+use Rattle.byte_model.specs.Node.{child_bit, child_digest, spelled_children, child_count}
 use Rattle.byte_model.specs.Laws.{IsDigest}
-use Rattle.byte_model.proofs.Spellings.{spelled_kids-same}
-use Rattle.record_model.specs.Records.{bit, bits_below, kid_in}
-use Rattle.record_model.proofs.Layouts.{FitsKids}
+use Rattle.byte_model.proofs.Spellings.{spelled_children-same}
+use Rattle.record_model.specs.Records.{bit, bits_below, child_in}
+use Rattle.record_model.proofs.Layouts.{FitsChildren}
 
 abbrev pub bitmap_of : (ℕ → Option (List ℕ)) → ℕ
 bitmap_of kids = sum_below (child_bit kids) 16
@@ -71,13 +71,13 @@ set_or_clear bitmap i = elim (cases_eq (bit bitmap i) 1) [
   | inr clear ↦ inr (omega arith, ne_eqb _ _ clear)
 ]
 
-kid_set : (bitmap : ℕ) (digests : List ℕ) (i : ℕ) → (bit bitmap i == 1) ≡ true → kid_in bitmap digests i ≡ Some (take 32 (drop (32 * bits_below bitmap i) digests))
-kid_set bitmap digests i e = ap (λ b. cond b (Some (take 32 (drop (32 * bits_below bitmap i) digests))) None) e
+child_set : (bitmap : ℕ) (digests : List ℕ) (i : ℕ) → (bit bitmap i == 1) ≡ true → child_in bitmap digests i ≡ Some (take 32 (drop (32 * bits_below bitmap i) digests))
+child_set bitmap digests i e = ap (λ b. cond b (Some (take 32 (drop (32 * bits_below bitmap i) digests))) None) e
 
-kid_clear : (bitmap : ℕ) (digests : List ℕ) (i : ℕ) → (bit bitmap i == 1) ≡ false → kid_in bitmap digests i ≡ None
-kid_clear bitmap digests i e = ap (λ b. cond b (Some (take 32 (drop (32 * bits_below bitmap i) digests))) None) e
+child_clear : (bitmap : ℕ) (digests : List ℕ) (i : ℕ) → (bit bitmap i == 1) ≡ false → child_in bitmap digests i ≡ None
+child_clear bitmap digests i e = ap (λ b. cond b (Some (take 32 (drop (32 * bits_below bitmap i) digests))) None) e
 
-bitmap_back : (bitmap : ℕ) (digests : List ℕ) (n : ℕ) → sum_below (child_bit (kid_in bitmap digests)) n ≡ bitmap % 2 ^ n
+bitmap_back : (bitmap : ℕ) (digests : List ℕ) (n : ℕ) → sum_below (child_bit (child_in bitmap digests)) n ≡ bitmap % 2 ^ n
 unfolding sum_below
 bitmap_back bitmap digests zero = omega arith
 bitmap_back bitmap digests (suc n) =
@@ -92,7 +92,7 @@ bitmap_back bitmap digests (suc n) =
           rw e (omega arith)
     ]
 
-digests_back : (bitmap : ℕ) (digests : List ℕ) (n : ℕ) → joined_below (λ i. child_digest (kid_in bitmap digests i)) n ≡ take (32 * bits_below bitmap n) digests
+digests_back : (bitmap : ℕ) (digests : List ℕ) (n : ℕ) → joined_below (λ i. child_digest (child_in bitmap digests i)) n ≡ take (32 * bits_below bitmap n) digests
 unfolding sum_below joined_below
 digests_back bitmap digests zero = refl
 digests_back bitmap digests (suc n) =
@@ -100,10 +100,10 @@ digests_back bitmap digests (suc n) =
     elim (set_or_clear bitmap n) [
       | inl (set, e) ↦
           let bytes : 32 * bits_below bitmap n + 32 ≡ 32 * (bits_below bitmap n + bit bitmap n) = omega arith in
-          ap₂ (λ (xs ys : List ℕ). xs ++ ys) further (ap child_digest (kid_set bitmap digests n e)) ∙ sym (take-add (32 * bits_below bitmap n) 32 digests) ∙ ap (λ k. take k digests) bytes
+          ap₂ (λ (xs ys : List ℕ). xs ++ ys) further (ap child_digest (child_set bitmap digests n e)) ∙ sym (take-add (32 * bits_below bitmap n) 32 digests) ∙ ap (λ k. take k digests) bytes
       | inr (clear, e) ↦
           let bytes : 32 * bits_below bitmap n ≡ 32 * (bits_below bitmap n + bit bitmap n) = omega arith in
-          ap₂ (λ (xs ys : List ℕ). xs ++ ys) further (ap child_digest (kid_clear bitmap digests n e)) ∙ append-nil (take (32 * bits_below bitmap n) digests) ∙ ap (λ k. take k digests) bytes
+          ap₂ (λ (xs ys : List ℕ). xs ++ ys) further (ap child_digest (child_clear bitmap digests n e)) ∙ append-nil (take (32 * bits_below bitmap n) digests) ∙ ap (λ k. take k digests) bytes
     ]
 
 bits_below-le : (bitmap m n : ℕ) → m ≤ n → bits_below bitmap m ≤ bits_below bitmap n
@@ -114,25 +114,25 @@ bits_below-le bitmap m (suc n) h = elim (cases_eq m (suc n)) [
   | inr less ↦ let further = bits_below-le bitmap m n (omega arith) in omega arith
 ]
 
-pub kid_in-digest : (bitmap : ℕ) (digests : List ℕ) → FitsKids bitmap digests → AreDigests (kid_in bitmap digests)
+pub child_in-digest : (bitmap : ℕ) (digests : List ℕ) → FitsChildren bitmap digests → AreDigests (child_in bitmap digests)
 unfolding sum_below
-kid_in-digest bitmap digests fits x h = elim (set_or_clear bitmap x) [
+child_in-digest bitmap digests fits x h = elim (set_or_clear bitmap x) [
   | inl (set, e) ↦
       let more : bits_below bitmap x + bit bitmap x ≤ bits_below bitmap 16 = bits_below-le bitmap (suc x) 16 (omega arith) in
       let rest = length-drop (32 * bits_below bitmap x) digests in
       let whole : length (take 32 (drop (32 * bits_below bitmap x) digests)) ≡ 32 = omega (arith, fits.1, length-take 32 (drop (32 * bits_below bitmap x) digests)) in
-      subst (λ kid. IfSome kid IsDigest) (sym (kid_set bitmap digests x e)) whole
-  | inr (clear, e) ↦ subst (λ kid. IfSome kid IsDigest) (sym (kid_clear bitmap digests x e)) tt
+      subst (λ child. IfSome child IsDigest) (sym (child_set bitmap digests x e)) whole
+  | inr (clear, e) ↦ subst (λ child. IfSome child IsDigest) (sym (child_clear bitmap digests x e)) tt
 ]
 
-pub spelled_kids-kid_in : (bitmap : ℕ) (digests : List ℕ) → FitsKids bitmap digests → spelled_kids (kid_in bitmap digests) ≡ borsh_u16 bitmap ++ digests
-unfolding spelled_kids
-spelled_kids-kid_in bitmap digests fits =
+pub spelled_children-child_in : (bitmap : ℕ) (digests : List ℕ) → FitsChildren bitmap digests → spelled_children (child_in bitmap digests) ≡ borsh_u16 bitmap ++ digests
+unfolding spelled_children
+spelled_children-child_in bitmap digests fits =
     ap₂ (λ (n : ℕ) (text : List ℕ). borsh_u16 n ++ text) (bitmap_back bitmap digests 16 ∙ mod-eq_of_lt fits.0) (digests_back bitmap digests 16 ∙ take_all (32 * bits_below bitmap 16) digests (omega (arith, fits.1)))
 
 -- ---- from children to a bitmap and digests, and back
 
-length_digest : (kid : Option (List ℕ)) (digit : ℕ) → digit < 2 → (digit == 1) ≡ is_some kid → IfSome kid IsDigest → length (child_digest kid) ≡ 32 * digit
+length_digest : (child : Option (List ℕ)) (digit : ℕ) → digit < 2 → (digit == 1) ≡ is_some child → IfSome child IsDigest → length (child_digest child) ≡ 32 * digit
 length_digest None digit two e fits = let clear = eqb-false _ _ e in omega arith
 length_digest (Some digest) digit two e fits = let set = eqb-true _ _ e in omega (arith, fits)
 
@@ -144,25 +144,25 @@ length_digests kids bitmap (suc n) told fits =
     let last = length_digest (kids n) (bit bitmap n) (omega arith) (told n (omega arith)) (fits n (omega arith)) in
     omega (arith, length-append (joined_below (λ i. child_digest (kids i)) n) (child_digest (kids n)))
 
-pub bitmap_of-fits : (kids : ℕ → Option (List ℕ)) → AreDigests kids → FitsKids (bitmap_of kids) (digests_of kids)
+pub bitmap_of-fits : (kids : ℕ → Option (List ℕ)) → AreDigests kids → FitsChildren (bitmap_of kids) (digests_of kids)
 bitmap_of-fits kids fits =
     let lt : bitmap_of kids < 2 ^ 16 = bits-lt kids 16 in
     (lt, length_digests kids (bitmap_of kids) 16 (bits_told kids (bitmap_of kids) 16 (mod-eq_of_lt lt)) fits)
 
-pub kid_in-again : (kids : ℕ → Option (List ℕ)) → AreDigests kids → (x : ℕ) → x < 16 → kid_in (bitmap_of kids) (digests_of kids) x ≡ kids x
-unfolding spelled_kids
-kid_in-again kids fits =
+pub child_in-again : (kids : ℕ → Option (List ℕ)) → AreDigests kids → (x : ℕ) → x < 16 → child_in (bitmap_of kids) (digests_of kids) x ≡ kids x
+unfolding spelled_children
+child_in-again kids fits =
     let fields = bitmap_of-fits kids fits in
-    spelled_kids-same (kid_in (bitmap_of kids) (digests_of kids)) kids (kid_in-digest (bitmap_of kids) (digests_of kids) fields) fits (spelled_kids-kid_in (bitmap_of kids) (digests_of kids) fields)
+    spelled_children-same (child_in (bitmap_of kids) (digests_of kids)) kids (child_in-digest (bitmap_of kids) (digests_of kids) fields) fits (spelled_children-child_in (bitmap_of kids) (digests_of kids) fields)
 
 -- children that are the same are as many
-pub kid_count-same : (kids others : ℕ → Option (List ℕ)) → ((x : ℕ) → x < 16 → kids x ≡ others x) → kid_count kids ≡ kid_count others
+pub child_count-same : (kids others : ℕ → Option (List ℕ)) → ((x : ℕ) → x < 16 → kids x ≡ others x) → child_count kids ≡ child_count others
 unfolding sum_below
-kid_count-same kids others = go 16
+child_count-same kids others = go 16
   where
     there : (ℕ → Option (List ℕ)) → ℕ → ℕ
     there kids i = if is_some (kids i) then 1 else 0
 
     go : (n : ℕ) → ((x : ℕ) → x < n → kids x ≡ others x) → sum_below (there kids) n ≡ sum_below (there others) n
     go zero same = refl
-    go (suc n) same = ap₂ (λ (a b : ℕ). a + b) (go n (λ x h. same x (omega arith))) (ap (λ kid. if is_some kid then 1 else 0) (same n (omega arith)))
+    go (suc n) same = ap₂ (λ (a b : ℕ). a + b) (go n (λ x h. same x (omega arith))) (ap (λ child. if is_some child then 1 else 0) (same n (omega arith)))

@@ -7,7 +7,7 @@ use Rattle.byte_model.specs.Borsh.{borsh_u16, borsh_u32, borsh_u64, borsh_bytes}
 use Rattle.byte_model.specs.Node.{ValueRef, spelled_value}
 use Rattle.byte_model.specs.Laws.{IsDigest, NamesValue}
 use Rattle.record_model.specs.Fields.{Cursor, Read}
-use Rattle.record_model.specs.Records.{Layout, leaf, branch, extension, bits_below, value_at, kids_at, leaf_at, branch_at, branch_with_value_at, extension_at, kind_at, layout_at}
+use Rattle.record_model.specs.Records.{Layout, leaf, branch, extension, bits_below, value_at, children_at, leaf_at, branch_at, branch_with_value_at, extension_at, kind_at, layout_at}
 use Rattle.record_model.proofs.Steps.{Gives, gives, and_then, by_test, Takes, Takes-then}
 use Rattle.record_model.proofs.Fields.{behind, bytes_taken, bytes_again, one_byte, two_bytes, four_bytes, eight_bytes, number_taken, number_again, vector_taken, vector_again, digests_taken, digests_again}
 
@@ -27,26 +27,26 @@ value_taken c small = and_then (number_taken four_bytes c small) (λ size h. and
 value_again : (value : ValueRef) (at : ℕ) (rest : List ℕ) → NamesValue value → value_at (record { at = at; left = spelled_value value ++ rest }) ≡ Ok (value, behind (at + 4) 32 rest)
 unfolding value_at
 value_again value at rest fits =
-    rw (append_assoc (borsh_u32 value.size) value.digest rest, number_again four_bytes value.size at (value.digest ++ rest) fits.0, bytes_again 32 value.digest (at + 4) rest fits.1) refl
+    rw (append_assoc (borsh_u32 value.length) value.digest rest, number_again four_bytes value.length at (value.digest ++ rest) fits.0, bytes_again 32 value.digest (at + 4) rest fits.1) refl
 
 -- a bitmap, and a digest for each bit that is set
-abbrev pub FitsKids : ℕ → List ℕ → Type 0
-FitsKids bitmap digests = (bitmap < 2 ^ 16) × (length digests ≡ 32 * bits_below bitmap 16)
+abbrev pub FitsChildren : ℕ → List ℕ → Type 0
+FitsChildren bitmap digests = (bitmap < 2 ^ 16) × (length digests ≡ 32 * bits_below bitmap 16)
 
-pub record TakesKids (c : Cursor) (read : (ℕ × List ℕ) × Cursor) : Type 0 where
+pub record TakesChildren (c : Cursor) (read : (ℕ × List ℕ) × Cursor) : Type 0 where
   pub took : Takes c (borsh_u16 read.0.0 ++ read.0.1) read.1
-  pub fits : FitsKids read.0.0 read.0.1
+  pub fits : FitsChildren read.0.0 read.0.1
 
-kids_taken : (c : Cursor) → AreBytes c.left → Gives (kids_at c) (TakesKids c)
-unfolding kids_at
-kids_taken c small = and_then (number_taken two_bytes c small) (λ bitmap h. and_then (digests_taken (bits_below bitmap.0 16) bitmap.1 h.took.rest) (λ digests k. gives _ (record {
+children_taken : (c : Cursor) → AreBytes c.left → Gives (children_at c) (TakesChildren c)
+unfolding children_at
+children_taken c small = and_then (number_taken two_bytes c small) (λ bitmap h. and_then (digests_taken (bits_below bitmap.0 16) bitmap.1 h.took.rest) (λ digests k. gives _ (record {
   took = Takes-then h.took k.took;
   fits = (h.fits, k.count);
 })))
 
-kids_again : (bitmap : ℕ) (digests : List ℕ) (at : ℕ) (rest : List ℕ) → FitsKids bitmap digests → kids_at (record { at = at; left = (borsh_u16 bitmap ++ digests) ++ rest }) ≡ Ok ((bitmap, digests), behind (at + 2) (32 * bits_below bitmap 16) rest)
-unfolding kids_at
-kids_again bitmap digests at rest fits =
+children_again : (bitmap : ℕ) (digests : List ℕ) (at : ℕ) (rest : List ℕ) → FitsChildren bitmap digests → children_at (record { at = at; left = (borsh_u16 bitmap ++ digests) ++ rest }) ≡ Ok ((bitmap, digests), behind (at + 2) (32 * bits_below bitmap 16) rest)
+unfolding children_at
+children_again bitmap digests at rest fits =
     rw (append_assoc (borsh_u16 bitmap) digests rest, number_again two_bytes bitmap at (digests ++ rest) fits.0, digests_again (bits_below bitmap 16) digests (at + 2) rest fits.1) refl
 
 -- ---- layouts
@@ -71,7 +71,7 @@ spelled_layout layout usage = ordinal_of layout ∷ (spelled_fields layout ++ bo
 -- each part fits its field
 abbrev pub FitsLayout : Layout → Type 0
 FitsLayout (leaf packed value) = (length packed < 2 ^ 32) × NamesValue value
-FitsLayout (branch value bitmap digests) = IfSome value NamesValue × FitsKids bitmap digests
+FitsLayout (branch value bitmap digests) = IfSome value NamesValue × FitsChildren bitmap digests
 FitsLayout (extension packed child) = (length packed < 2 ^ 32) × IsDigest child
 
 abbrev pub HasPathBytes : Layout → Type 0
@@ -98,7 +98,7 @@ leaf_taken c small = and_then (vector_taken c small) (λ packed h. and_then (val
 
 branch_taken : (c : Cursor) → AreBytes c.left → Gives (branch_at c) (TakesFields 1 c)
 unfolding branch_at
-branch_taken c small = and_then (kids_taken c small) (λ kids h. gives _ (record {
+branch_taken c small = and_then (children_taken c small) (λ kids h. gives _ (record {
   took = h.took;
   kind_is = refl;
   fits = (tt, h.fits);
@@ -107,7 +107,7 @@ branch_taken c small = and_then (kids_taken c small) (λ kids h. gives _ (record
 
 branch_with_value_taken : (c : Cursor) → AreBytes c.left → Gives (branch_with_value_at c) (TakesFields 2 c)
 unfolding branch_with_value_at
-branch_with_value_taken c small = and_then (value_taken c small) (λ value h. and_then (kids_taken value.1 h.took.rest) (λ kids k. gives _ (record {
+branch_with_value_taken c small = and_then (value_taken c small) (λ value h. and_then (children_taken value.1 h.took.rest) (λ kids k. gives _ (record {
   took = Takes-then h.took k.took;
   kind_is = refl;
   fits = (h.fits, k.fits);
@@ -156,9 +156,9 @@ unfolding kind_at leaf_at branch_at branch_with_value_at extension_at
 fields_again (leaf packed value) place at rest fits =
     (at + 4 + length packed + 4 + 32, rw (append_assoc (borsh_bytes packed) (spelled_value value) rest, vector_again packed at (spelled_value value ++ rest) fits.0, value_again value (at + 4 + length packed) rest fits.1) refl)
 fields_again (branch None bitmap digests) place at rest fits =
-    (at + 2 + 32 * bits_below bitmap 16, rw (kids_again bitmap digests at rest fits.1) refl)
+    (at + 2 + 32 * bits_below bitmap 16, rw (children_again bitmap digests at rest fits.1) refl)
 fields_again (branch (Some value) bitmap digests) place at rest fits =
-    (at + 4 + 32 + 2 + 32 * bits_below bitmap 16, rw (append_assoc (spelled_value value) (borsh_u16 bitmap ++ digests) rest, value_again value at ((borsh_u16 bitmap ++ digests) ++ rest) fits.0, kids_again bitmap digests (at + 4 + 32) rest fits.1) refl)
+    (at + 4 + 32 + 2 + 32 * bits_below bitmap 16, rw (append_assoc (spelled_value value) (borsh_u16 bitmap ++ digests) rest, value_again value at ((borsh_u16 bitmap ++ digests) ++ rest) fits.0, children_again bitmap digests (at + 4 + 32) rest fits.1) refl)
 fields_again (extension packed child) place at rest fits =
     (at + 4 + length packed + 32, rw (append_assoc (borsh_bytes packed) child rest, vector_again packed at (child ++ rest) fits.0, bytes_again 32 child (at + 4 + length packed) rest fits.1) refl)
 

@@ -6,16 +6,16 @@ use Rattle.byte_model.specs.Nibbles.{AreBytes, AreNibbles}
 use Rattle.byte_model.specs.PackedPath.{packed}
 use Rattle.byte_model.specs.Borsh.{borsh_u64}
 use Rattle.byte_model.specs.Node as node
-use Rattle.byte_model.specs.Node.{Node, spelled, spelled_value, kid_count, longest_value, IsShaped}
+use Rattle.byte_model.specs.Node.{Node, spelled, spelled_value, child_count, longest_value, IsShaped}
 use Rattle.byte_model.specs.Laws.{FitsRecord, SameNode}
 use Rattle.byte_model.proofs.Spellings.{spelled-same}
 use Rattle.record_model.specs.Fields.{FrameFault, Cursor, start_of, end_of}
 use Rattle.record_model.specs.Paths.{PathFault, path_in}
-use Rattle.record_model.specs.Records.{Layout, leaf, branch, extension, layout_at, layout_of, kid_in, has_shape, shaped, suited, node_in, record_in, HasShortPath, IsRecord}
+use Rattle.record_model.specs.Records.{Layout, leaf, branch, extension, layout_at, layout_of, child_in, has_shape, shaped, suited, node_in, record_in, HasShortPath, IsRecord}
 use Rattle.record_model.proofs.Steps.{Gives, gives, and_then, by_test}
 use Rattle.record_model.proofs.PackedPaths.{path_in-found, path_in-only}
 use Rattle.record_model.proofs.Layouts.{spelled_layout, FitsLayout, HasPathBytes, layout_taken, layout_again}
-use Rattle.record_model.proofs.Kids.{bitmap_of, digests_of, bitmap_of-fits, kid_in-digest, kid_in-again, spelled_kids-kid_in, kid_count-same}
+use Rattle.record_model.proofs.Kids.{bitmap_of, digests_of, bitmap_of-fits, child_in-digest, child_in-again, spelled_children-child_in, child_count-same}
 
 -- ---- the layout of all the bytes
 
@@ -96,14 +96,14 @@ node_found (leaf bytes value) fits small = and_then (suited_found true bytes sma
     (h.0, fits.1)
     (subst (λ bytes. length bytes < 2 ^ 32) h.1 fits.0))
 node_found (branch None bitmap digests) fits small =
-    shaped_found (branch None bitmap digests) (node.branch None (kid_in bitmap digests))
-    (λ usage. ap (λ (kids : List ℕ). 1 ∷ (kids ++ borsh_u64 usage)) (sym (spelled_kids-kid_in bitmap digests fits.1)))
-    (tt, kid_in-digest bitmap digests fits.1)
+    shaped_found (branch None bitmap digests) (node.branch None (child_in bitmap digests))
+    (λ usage. ap (λ (kids : List ℕ). 1 ∷ (kids ++ borsh_u64 usage)) (sym (spelled_children-child_in bitmap digests fits.1)))
+    (tt, child_in-digest bitmap digests fits.1)
     tt
 node_found (branch (Some value) bitmap digests) fits small =
-    shaped_found (branch (Some value) bitmap digests) (node.branch (Some value) (kid_in bitmap digests))
-    (λ usage. ap (λ (kids : List ℕ). 2 ∷ ((spelled_value value ++ kids) ++ borsh_u64 usage)) (sym (spelled_kids-kid_in bitmap digests fits.1)))
-    (fits.0, kid_in-digest bitmap digests fits.1)
+    shaped_found (branch (Some value) bitmap digests) (node.branch (Some value) (child_in bitmap digests))
+    (λ usage. ap (λ (kids : List ℕ). 2 ∷ ((spelled_value value ++ kids) ++ borsh_u64 usage)) (sym (spelled_children-child_in bitmap digests fits.1)))
+    (fits.0, child_in-digest bitmap digests fits.1)
     tt
 node_found (extension bytes child) fits small = and_then (suited_found false bytes small) (λ path h.
     shaped_found (extension bytes child) (node.extension path child)
@@ -123,30 +123,30 @@ layout_from-fits (node.branch value kids) fields short = (fields.0, bitmap_of-fi
 layout_from-fits (node.extension path child) fields short = (short, fields.1)
 
 spelled_layout-from : (n : Node) (usage : ℕ) → spelled n usage ≡ spelled_layout (layout_from n) usage
-unfolding spelled node.spelled_kids
+unfolding spelled node.spelled_children
 spelled_layout-from (node.leaf path value) usage = refl
 spelled_layout-from (node.branch None kids) usage = refl
 spelled_layout-from (node.branch (Some value) kids) usage = refl
 spelled_layout-from (node.extension path child) usage = refl
 
 -- a branch's children, read from their own bitmap and digests
-abbrev kids_again : (ℕ → Option (List ℕ)) → ℕ → Option (List ℕ)
-kids_again kids = kid_in (bitmap_of kids) (digests_of kids)
+abbrev children_again : (ℕ → Option (List ℕ)) → ℕ → Option (List ℕ)
+children_again kids = child_in (bitmap_of kids) (digests_of kids)
 
 node_only : (n : Node) → FitsRecord n → IsShaped n → (m : Node) × (node_in (layout_from n) ≡ Ok m) × SameNode m n
 unfolding node_in shaped
 node_only (node.leaf path value) fields shape =
     (node.leaf path value, rw (suited_only true path fields.0, shape_only (node.leaf path value) shape) refl, (refl, refl))
 node_only (node.branch None kids) fields shape =
-    let same = kid_in-again kids fields.1 in
-    let many = kid_count-same (kids_again kids) kids same in
-    let shape : has_shape (node.branch None (kids_again kids)) ≡ true = shape_only (node.branch None (kids_again kids)) (omega (arith, many, shape)) in
-    (node.branch None (kids_again kids), rw shape refl, (refl, same))
+    let same = child_in-again kids fields.1 in
+    let many = child_count-same (children_again kids) kids same in
+    let shape : has_shape (node.branch None (children_again kids)) ≡ true = shape_only (node.branch None (children_again kids)) (omega (arith, many, shape)) in
+    (node.branch None (children_again kids), rw shape refl, (refl, same))
 node_only (node.branch (Some value) kids) fields shape =
-    let same = kid_in-again kids fields.1 in
-    let many = kid_count-same (kids_again kids) kids same in
-    let shape : has_shape (node.branch (Some value) (kids_again kids)) ≡ true = shape_only (node.branch (Some value) (kids_again kids)) (shape.0, omega (arith, many, shape.1)) in
-    (node.branch (Some value) (kids_again kids), rw shape refl, (refl, same))
+    let same = child_in-again kids fields.1 in
+    let many = child_count-same (children_again kids) kids same in
+    let shape : has_shape (node.branch (Some value) (children_again kids)) ≡ true = shape_only (node.branch (Some value) (children_again kids)) (shape.0, omega (arith, many, shape.1)) in
+    (node.branch (Some value) (children_again kids), rw shape refl, (refl, same))
 node_only (node.extension path child) fields shape =
     (node.extension path child, rw (suited_only false path fields.0, shape_only (node.extension path child) shape) refl, (refl, refl))
 
@@ -184,15 +184,15 @@ spelled-leaves : (n : Node) (usage : ℕ) (rest : List ℕ) → FitsRecord n →
 spelled-leaves n usage rest fields short lt =
     ap (λ (bytes : List ℕ). left_behind (layout_at (start_of (bytes ++ rest)))) (spelled_layout-from n usage) ∙ ap left_behind (layout_again (layout_from n) usage 0 rest (layout_from-fits n fields short) lt).1
 
-pub spelled-not_front : (m n : Node) (usage other : ℕ) (more rest : List ℕ) → FitsRecord m → HasShortPath m → usage < 2 ^ 64 → FitsRecord n → HasShortPath n → other < 2 ^ 64 → spelled m usage ++ more ≡ spelled n other ++ rest → SameNode m n × (usage ≡ other) × (more ≡ rest)
-spelled-not_front m n usage other more rest fields short lt fields' short' lt' e =
+pub spelled-not_prefix : (m n : Node) (usage other : ℕ) (more rest : List ℕ) → FitsRecord m → HasShortPath m → usage < 2 ^ 64 → FitsRecord n → HasShortPath n → other < 2 ^ 64 → spelled m usage ++ more ≡ spelled n other ++ rest → SameNode m n × (usage ≡ other) × (more ≡ rest)
+spelled-not_prefix m n usage other more rest fields short lt fields' short' lt' e =
     let behind : more ≡ rest = sym (spelled-leaves m usage more fields short lt) ∙ ap (λ (bytes : List ℕ). left_behind (layout_at (start_of bytes))) e ∙ spelled-leaves n other rest fields' short' lt' in
     let same : spelled m usage ≡ spelled n other = append_cancel_right (spelled m usage) (spelled n other) more (e ∙ ap (λ (bytes : List ℕ). spelled n other ++ bytes) (sym behind)) in
     let both = spelled-same m n usage other fields fields' lt lt' same in
     (both.0, both.1, behind)
 
-pub record-not_front : (m n : Node) (usage other : ℕ) (one two more rest : List ℕ) → IsRecord m usage one → IsRecord n other two → one ++ more ≡ two ++ rest → SameNode m n × (usage ≡ other) × (one ≡ two)
-record-not_front m n usage other one two more rest h k e =
+pub record-not_prefix : (m n : Node) (usage other : ℕ) (one two more rest : List ℕ) → IsRecord m usage one → IsRecord n other two → one ++ more ≡ two ++ rest → SameNode m n × (usage ≡ other) × (one ≡ two)
+record-not_prefix m n usage other one two more rest h k e =
     let spellings : spelled m usage ++ more ≡ spelled n other ++ rest = ap (λ (bytes : List ℕ). bytes ++ more) (sym h.spelling) ∙ e ∙ ap (λ (bytes : List ℕ). bytes ++ rest) k.spelling in
-    let both = spelled-not_front m n usage other more rest h.fields h.path h.usage_fits k.fields k.path k.usage_fits spellings in
+    let both = spelled-not_prefix m n usage other more rest h.fields h.path h.usage_fits k.fields k.path k.usage_fits spellings in
     (both.0, both.1, append_cancel_right one two more (e ∙ ap (λ (bytes : List ℕ). two ++ bytes) (sym both.2)))

@@ -1,4 +1,4 @@
--- What a reader gives, and what it took from the front.
+-- What a reader gives, and what it took from the prefix.
 use Rattle.std.proofs.Common.{◌≡◌, ℕ, Bool, true, false, if◌then◌else◌, List, ◌++◌, Result, Ok, Err, IfOk, refl, sym, ◌∙◌, ap, append_assoc}
 use Rattle.byte_model.specs.Nibbles.{AreBytes}
 use Rattle.record_model.specs.Fields.{Cursor, ◌>>=◌}
@@ -30,7 +30,7 @@ pub so_gives : {A E : Type 0} {P Q : A → Type 0} {read : Result A E} → Gives
 so_gives {read = Ok x} h so = record { given = so x h.given }
 so_gives {read = Err e} h so = record { given = tt }
 
--- what a reader took from the front
+-- what a reader took from the prefix
 pub record Takes (c : Cursor) (text : List ℕ) (d : Cursor) : Type 0 where
   pub parts : c.left ≡ text ++ d.left
   pub rest : AreBytes d.left

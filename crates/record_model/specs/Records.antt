@@ -4,7 +4,7 @@ use Rattle.std.specs.Int.{w8, w16, w32, w64}
 use Rattle.byte_model.specs.Below.{sum_below}
 use Rattle.byte_model.specs.PackedPath.{packed}
 use Rattle.byte_model.specs.Node as node
-use Rattle.byte_model.specs.Node.{Node, ValueRef, spelled, kid_count, longest_value, IsShaped}
+use Rattle.byte_model.specs.Node.{Node, ValueRef, spelled, child_count, longest_value, IsShaped}
 use Rattle.byte_model.specs.Laws.{FitsRecord}
 use Rattle.record_model.specs.Fields.{FrameFault, ordinal, Cursor, Read, start_of, ◌>>=◌, bytes_at, number_at, vector_at, digests_at, end_of}
 use Rattle.record_model.specs.Paths.{PathFault, flag, path_in}
@@ -34,11 +34,11 @@ unfoldable pub value_at : Cursor → Read ValueRef
 value_at c = do
   size ← number_at w32 c
   digest ← bytes_at 32 size.1
-  Ok (record { size = size.0; digest = digest.0 }, digest.1)
+  Ok (record { length = size.0; digest = digest.0 }, digest.1)
 
 -- sixteen bits, and a digest for each that is set
-unfoldable pub kids_at : Cursor → Read (ℕ × List ℕ)
-kids_at c = do
+unfoldable pub children_at : Cursor → Read (ℕ × List ℕ)
+children_at c = do
   bitmap ← number_at w16 c
   digests ← digests_at (bits_below bitmap.0 16) bitmap.1
   Ok ((bitmap.0, digests.0), digests.1)
@@ -51,13 +51,13 @@ leaf_at c = do
 
 unfoldable pub branch_at : Cursor → Read Layout
 branch_at c = do
-  kids ← kids_at c
+  kids ← children_at c
   Ok (branch None kids.0.0 kids.0.1, kids.1)
 
 unfoldable pub branch_with_value_at : Cursor → Read Layout
 branch_with_value_at c = do
   value ← value_at c
-  kids ← kids_at value.1
+  kids ← children_at value.1
   Ok (branch (Some value.0) kids.0.0 kids.0.1, kids.1)
 
 unfoldable pub extension_at : Cursor → Read Layout
@@ -92,14 +92,14 @@ layout_of bytes = do
 -- ---- the node
 
 -- the child at nibble i: its digest stands behind those of the bits below
-abbrev pub kid_in : ℕ → List ℕ → ℕ → Option (List ℕ)
-kid_in bitmap digests i = if bit bitmap i == 1 then Some (take 32 (drop (32 * bits_below bitmap i) digests)) else None
+abbrev pub child_in : ℕ → List ℕ → ℕ → Option (List ℕ)
+child_in bitmap digests i = if bit bitmap i == 1 then Some (take 32 (drop (32 * bits_below bitmap i) digests)) else None
 
 -- the test of the shape that a node of any place has
 abbrev pub has_shape : Node → Bool
-has_shape (node.leaf path value) = nat_le value.size longest_value
-has_shape (node.branch None kids) = nat_le 2 (kid_count kids)
-has_shape (node.branch (Some value) kids) = nat_le value.size longest_value && nat_le 1 (kid_count kids)
+has_shape (node.leaf path value) = nat_le value.length longest_value
+has_shape (node.branch None kids) = nat_le 2 (child_count kids)
+has_shape (node.branch (Some value) kids) = nat_le value.length longest_value && nat_le 1 (child_count kids)
 has_shape (node.extension path child) = not (length path == 0)
 
 unfoldable pub shaped : Node → Result Node RecordFault
@@ -120,7 +120,7 @@ unfoldable pub node_in : Layout → Result Node RecordFault
 node_in (leaf packed value) = do
   path ← suited true packed
   shaped (node.leaf path value)
-node_in (branch value bitmap digests) = shaped (node.branch value (kid_in bitmap digests))
+node_in (branch value bitmap digests) = shaped (node.branch value (child_in bitmap digests))
 node_in (extension packed child) = do
   path ← suited false packed
   shaped (node.extension path child)

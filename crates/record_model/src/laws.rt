@@ -46,7 +46,7 @@ pub fn records_are_read_exactly()
     ensures only { (node : Node) (usage : ℕ) (bytes : List ℕ) → IsRecord node usage bytes → IsOkAnd (record_in bytes) (λ r. SameNode r.0 node × (r.1 ≡ usage)) }
 {}
 
-/// A spelling belongs to one node and usage, and none is the front of another. Of spellings it is said whatever shape the nodes have.
+/// A spelling belongs to one node and usage, and none is the prefix of another. Of spellings it is said whatever shape the nodes have.
 pub fn no_record_begins_another()
     ensures records { (m n : Node) (usage other : ℕ) (one two more rest : List ℕ) → IsRecord m usage one → IsRecord n other two → one ++ more ≡ two ++ rest → SameNode m n × (usage ≡ other) × (one ≡ two) }
     ensures spellings { (m n : Node) (usage other : ℕ) (more rest : List ℕ) → FitsRecord m → HasShortPath m → usage < 2 ^ 64 → FitsRecord n → HasShortPath n → other < 2 ^ 64 → spelled m usage ++ more ≡ spelled n other ++ rest → SameNode m n × (usage ≡ other) × (more ≡ rest) }

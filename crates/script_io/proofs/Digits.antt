@@ -15,11 +15,11 @@ pub digits_step : (n start : ℕ) (digits whole : List ℕ) → 10 ≤ n → n <
 digits_step n start digits whole h k s t e =
     ap (λ (rest : List ℕ). decimal (n / 10) ++ rest) (place_before digits start (48 + n % 10) s t)
     ∙ sym (append_assoc (decimal (n / 10)) ((48 + n % 10) ∷ []) (drop start digits))
-    ∙ ap (λ (front : List ℕ). front ++ drop start digits) (sym (decimal_step n h k)) ∙ e
+    ∙ ap (λ (prefix : List ℕ). prefix ++ drop start digits) (sym (decimal_step n h k)) ∙ e
 
 pub room_last : (n room : ℕ) → n < 10 → length (decimal n) ≤ room → 1 ≤ room
 room_last n room h r = omega (arith, ap length (decimal_digit n h))
 
 pub digits_last : (n start : ℕ) (digits whole : List ℕ) → n < 10 → 1 ≤ start → start ≤ length digits → decimal n ++ drop start digits ≡ whole → drop (start - 1) (set digits (start - 1) (48 + n)) ≡ whole
 digits_last n start digits whole h s t e =
-    place_before digits start (48 + n) s t ∙ ap (λ (front : List ℕ). front ++ drop start digits) (sym (decimal_digit n h)) ∙ e
+    place_before digits start (48 + n) s t ∙ ap (λ (prefix : List ℕ). prefix ++ drop start digits) (sym (decimal_digit n h)) ∙ e

@@ -17,7 +17,7 @@ use Rattle.script_io.specs.declared.event.Event.{Event as Asked}
 use Rattle.script_io.specs.declared.event.Event.TheVariants.{Nothing}
 use Rattle.script_io.specs.declared.event.EventError.{EventError}
 use Rattle.script_io.specs.declared.event.EventError.TheVariants.{Bad}
-use Rattle.script_io.specs.Shown.{event}
+use Rattle.script_io.specs.Meanings.{event}
 
 -- another first word
 other_word : (word : List ℕ) (words : List (List ℕ)) → bytes_eq word (codes "set") ≡ false → event_of_words (word ∷ words) ≡ None

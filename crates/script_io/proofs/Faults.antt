@@ -42,7 +42,7 @@ read_bounds before size feed e = by_case (case_of before size feed)
     by_case (is_past h k) = absurd (cc (fault-past before size feed h k))
     by_case (is_read h k) = (⊎_elim (λ s. s) (λ s. omega arith) h, k)
 
--- a fault of the front of a line is one of the line
+-- a fault of the prefix of a line is one of the line
 pub fault_grows : (before size more feed : ℕ) (fault : LineFault) → size ≤ more → line_fault before size 0 ≡ Some fault → line_fault before more feed ≡ Some fault
 fault_grows before size more feed fault le e = by_case (case_of before size 0)
   where

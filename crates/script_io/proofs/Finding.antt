@@ -159,11 +159,11 @@ pub Keeps-takes : (left after told : Option (List ℕ)) (old before_fill pending
 Keeps-takes None after told old before_fill pending n k t = tt
 Keeps-takes (Some l) after told old before_fill pending n k t =
     let d : Takes k.0 after before_fill pending n = subst (λ (o : Option (List ℕ)). IfSome o (λ l. Takes l after before_fill pending n)) k.1 t in
-    (drop n k.0, d.rest, ap (λ (front : List ℕ). front ++ drop n k.0) d.more ∙ append_assoc before_fill (take n k.0) (drop n k.0) ∙ ap (λ (all : List ℕ). before_fill ++ all) (take-append-drop n k.0) ∙ k.2)
+    (drop n k.0, d.rest, ap (λ (prefix : List ℕ). prefix ++ drop n k.0) d.more ∙ append_assoc before_fill (take n k.0) (drop n k.0) ∙ ap (λ (all : List ℕ). before_fill ++ all) (take-append-drop n k.0) ∙ k.2)
 
 pub place-grows : (old pending : List ℕ) → take (length old) pending ≡ old → length old ≤ place old → length old ≤ place pending
-place-grows old pending front h =
-    let e = ap place (sym (take-append-drop (length old) pending) ∙ ap (λ (t : List ℕ). t ++ drop (length old) pending) front) ∙ place-unfed old (drop (length old) pending) h in
+place-grows old pending prefix h =
+    let e = ap place (sym (take-append-drop (length old) pending) ∙ ap (λ (t : List ℕ). t ++ drop (length old) pending) prefix) ∙ place-unfed old (drop (length old) pending) h in
     omega arith
 
 pub place-unseen : (scanned : ℕ) (pending : List ℕ) → scanned ≤ place pending → length (drop scanned pending) ≤ place (drop scanned pending) → length pending ≤ place pending
@@ -192,12 +192,12 @@ no_fault (Some fault) e = absurd cc
 
 -- a reader before and after it filled its window
 pub record IsFilled (before_fill items pending : List ℕ) (n : ℕ) : Type 0 where
-  pub front : take (length before_fill) items ≡ before_fill
+  pub prefix : take (length before_fill) items ≡ before_fill
   pub size : length items ≡ length before_fill + n
   pub moved : pending ≡ items
 
 same_items : (before_fill items pending : List ℕ) (n : ℕ) → n ≡ 0 → IsFilled before_fill items pending n → pending ≡ before_fill
-same_items before_fill items pending n z f = f.moved ∙ sym (take_all (length before_fill) items (omega (arith, f.size))) ∙ f.front
+same_items before_fill items pending n z f = f.moved ∙ sym (take_all (length before_fill) items (omega (arith, f.size))) ∙ f.prefix
 
 pub last_line : (left after told : Option (List ℕ)) (old before_fill items pending : List ℕ) (before n size : ℕ) → Keeps old left before_fill told → IfSome told (λ l. Takes l after before_fill items n) → n ≡ 0
     → IsFilled before_fill items pending n → size ≡ length before_fill → size ≢ 0 → length before_fill ≤ place before_fill → None ≡ option_map error_of (line_fault before size 0)
@@ -220,4 +220,4 @@ fill_falls before_fill items pending before n size f some s e =
     omega (arith, f.size, ap length f.moved, b.0)
 
 pub filled_place : (before_fill items pending : List ℕ) (n size : ℕ) → IsFilled before_fill items pending n → size ≡ length before_fill → length before_fill ≤ place before_fill → size ≤ place pending
-filled_place before_fill items pending n size f s h = rw (f.moved, s) (place-grows before_fill items f.front h)
+filled_place before_fill items pending n size f s h = rw (f.moved, s) (place-grows before_fill items f.prefix h)

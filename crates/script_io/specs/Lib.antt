@@ -1,6 +1,6 @@
 pub mod Streams
-pub mod Memory
+pub mod StreamStates
 pub mod SinkRoom
-pub mod Shown
+pub mod Meanings
 pub mod Reading
 pub mod Windows

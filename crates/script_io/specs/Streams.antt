@@ -4,10 +4,10 @@ use Rattle.base_core.specs.declared.fault.Fault.{Fault}
 
 -- ---- sources
 
--- A read put the first n bytes of what was left at the front of the buffer, and the rest is left. It put none into a buffer with room only where nothing was left.
+-- A read put the first n bytes of what was left at the start of the buffer, and the rest is left. It put none into a buffer with room only where nothing was left.
 pub record Delivers (input : List ℕ) (after : Option (List ℕ)) (room : ℕ) (buffer : List ℕ) (n : ℕ) : Type 0 where
   pub some : n ≤ length input
-  pub front : take n buffer ≡ take n input
+  pub prefix : take n buffer ≡ take n input
   pub rest : after ≡ Some (drop n input)
   pub at_end : n ≡ 0 → 0 < room → input ≡ []
 
@@ -28,14 +28,14 @@ pub record IsTaken (piece : List ℕ) (n : ℕ) : Type 0 where
   pub most : n ≤ length piece
   pub least : 0 < length piece → 0 < n
 
--- a front of the piece stands behind what was written
-pub record AppendsFront (before : List ℕ) (after : Option (List ℕ)) (piece : List ℕ) : Type 0 where
-  pub front : List ℕ
+-- a prefix of the piece stands behind what was written
+pub record AppendsPrefix (before : List ℕ) (after : Option (List ℕ)) (piece : List ℕ) : Type 0 where
+  pub prefix : List ℕ
   pub rest : List ℕ
-  pub parts : piece ≡ front ++ rest
-  pub told : after ≡ Some (before ++ front)
+  pub parts : piece ≡ prefix ++ rest
+  pub told : after ≡ Some (before ++ prefix)
 
--- the piece stands behind what was written, or after a fault a front of it
+-- the piece stands behind what was written, or after a fault a prefix of it
 abbrev pub Appends : List ℕ → Option (List ℕ) → List ℕ → Result Unit Fault → Type 0
 Appends before after piece (Ok done) = after ≡ Some (before ++ piece)
-Appends before after piece (Err fault) = AppendsFront before after piece
+Appends before after piece (Err fault) = AppendsPrefix before after piece

@@ -14,7 +14,7 @@ pub struct Buffer {
 }
 
 impl Model for Buffer {
-    ghost use Rattle.script_io.specs.Memory.{Kept};
+    ghost use Rattle.script_io.specs.StreamStates.{Kept};
 
     ghost Value = { Kept };
 

@@ -1,6 +1,6 @@
 ghost use Rattle.std.specs.Prelude.{◌≡◌, Some, None, IfOk};
 ghost use Rattle.script_model.specs.Words.{command_of};
-ghost use Rattle.script_io.specs.Shown.{command};
+ghost use Rattle.script_io.specs.Meanings.{command};
 
 use base_core::Text;
 use std::alloc::Global;

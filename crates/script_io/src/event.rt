@@ -1,7 +1,7 @@
 ghost use Rattle.std.specs.Prelude.{◌≡◌, Some, None, Ok, Err, IfOk, if◌then◌else◌};
 ghost use Rattle.std.specs.List.{slice_split, list_any};
 ghost use Rattle.script_model.specs.Lines.{event_of, event_of_words, is_space, is_carriage_return};
-ghost use Rattle.script_io.specs.Shown.{event};
+ghost use Rattle.script_io.specs.Meanings.{event};
 
 use crate::hex_bytes::read_hex;
 use crate::words::cut_word;

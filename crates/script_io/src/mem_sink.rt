@@ -1,7 +1,7 @@
 ghost use Rattle.std.specs.Prelude.{◌≡◌, ◌≤◌, [], IfOk, IsErr, IsTrue, ◌↔◌, length, Some};
 ghost use Rattle.base_core.specs.Faults.{IsCounted};
 ghost use Rattle.script_io.specs.Streams.{IsTaken, Writes};
-ghost use Rattle.script_io.specs.Memory.{Stock, refuses, taken, after_write};
+ghost use Rattle.script_io.specs.StreamStates.{SinkState, refuses, taken, after_write};
 
 use crate::sink::Sink;
 use base_core::Fault;
@@ -22,10 +22,10 @@ pub struct MemSink {
 
 impl Model for MemSink {
     ghost use Rattle.std.specs.Prelude.{◌≤◌, length, vec_capacity};
-    ghost use Rattle.script_io.specs.Memory.{Stock};
+    ghost use Rattle.script_io.specs.StreamStates.{SinkState};
     ghost use Rattle.script_io.specs.SinkRoom.{HasRoom};
 
-    ghost Value = { Stock };
+    ghost Value = { SinkState };
 
     ghost view = { λ sink. record {
       bytes = sink.bytes.items;

@@ -1,7 +1,7 @@
 ghost use Rattle.std.specs.Prelude.{◌≡◌, ◌≤◌, ◌++◌, IfOk, IsErr, IsTrue, ◌↔◌, length, take, drop};
 ghost use Rattle.base_core.specs.Faults.{IsCounted};
 ghost use Rattle.script_io.specs.Streams.{Reads};
-ghost use Rattle.script_io.specs.Memory.{Supply, fails_next, given, after_read};
+ghost use Rattle.script_io.specs.StreamStates.{SourceState, fails_next, given, after_read};
 
 use crate::source::Source;
 use base_core::Fault;
@@ -22,9 +22,9 @@ pub struct MemSource {
 
 impl Model for MemSource {
     ghost use Rattle.std.specs.Prelude.{◌≤◌, drop, length};
-    ghost use Rattle.script_io.specs.Memory.{Supply};
+    ghost use Rattle.script_io.specs.StreamStates.{SourceState};
 
-    ghost Value = { Supply };
+    ghost Value = { SourceState };
 
     ghost view = { λ source. record {
       left = drop source.place source.bytes.items;

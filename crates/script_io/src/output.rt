@@ -8,7 +8,7 @@ ghost use Rattle.script_io.specs.Streams.{Appends};
 use crate::sink::Sink;
 use base_core::Fault;
 
-/// Writes all of the bytes, in as many writes as the sink wants. After a fault a front of them was
+/// Writes all of the bytes, in as many writes as the sink wants. After a fault a prefix of them was
 /// written. It takes no memory.
 pub fn put<K: Sink>(sink: &mut K, bytes: &[u8]) -> Result<(), Fault>
     ensures written { IfSome (K.written sink.old) (λ before. Appends before (K.written sink.new) bytes.now result) }
@@ -52,8 +52,8 @@ fn put_digits<K: Sink>(sink: &mut K, bytes: &[u8]) -> Result<(), Fault>
 {
     let mut rest = bytes;
     while !rest.is_empty() {
-        let (front, after) = rest.split_at(rest.len().min(PIECE));
-        match put_piece(sink, front) {
+        let (prefix, after) = rest.split_at(rest.len().min(PIECE));
+        match put_piece(sink, prefix) {
             Ok(()) => rest = after,
             Err(fault) => return Err(fault),
         }

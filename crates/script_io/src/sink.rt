@@ -12,7 +12,7 @@ pub trait Sink {
     /// How often the sink has failed, up to 2^64 - 1.
     ghost faults: { Self → ℕ };
 
-    /// Takes bytes from the front of the piece, at least one where there is one, and answers how many.
+    /// Takes bytes from the start of the piece, at least one where there is one, and answers how many.
     fn write(&mut self, piece: &[u8]) -> Result<usize, Fault>
         ensures taken { IfOk result (IsTaken piece.now) }
         ensures bytes { IfSome (written self.old) (λ before. Writes before (written self.new) piece.now result) }

@@ -12,7 +12,7 @@ pub trait Source {
     /// How often the source has failed, up to 2^64 - 1.
     ghost faults: { Self → ℕ };
 
-    /// Puts bytes at the front of the buffer, and answers how many. For a buffer with room, 0 is the
+    /// Puts bytes at the start of the buffer, and answers how many. For a buffer with room, 0 is the
     /// end of the input.
     fn read(&mut self, into: &mut [u8]) -> Result<usize, Fault>
         ensures fits { IfOk result (λ n. n ≤ length into.old) }

@@ -45,7 +45,7 @@ impl Window {
         &self.bytes[self.start..]
     }
 
-    /// Moves the bytes to the front.
+    /// Moves the bytes to the start.
     fn compact(&mut self)
         ensures start { self.new.start ≡ 0 }
         ensures bytes { self.new.bytes.items ≡ drop self.old.start self.old.bytes.items }

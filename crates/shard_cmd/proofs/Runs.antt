@@ -6,7 +6,7 @@ use Rattle.output_model.specs.Ends.{Output, Ending, RunLimits, bad_command}
 use Rattle.output_model.specs.Output.{output_of, command_output}
 use Rattle.script_io.specs.declared.command.Command.{Command as Asked}
 use Rattle.script_io.specs.declared.command.Command.TheVariants.{Root}
-use Rattle.script_io.specs.Shown.{command}
+use Rattle.script_io.specs.Meanings.{command}
 use Rattle.shard_cmd.specs.declared.reply.Reply.{Reply}
 use Rattle.shard_cmd.specs.Ends.{ending_of, EndsAs}
 use Rattle.shard_cmd.specs.Replies.{IsReply}

@@ -17,12 +17,12 @@ use Rattle.output_model.proofs.Steps as steps
 use Rattle.output_model.proofs.Steps.{first_output}
 use Rattle.base_core.specs.declared.put_error.PutError.{PutError}
 use Rattle.base_core.specs.declared.put_error.PutError.TheVariants.{Full, NoMemory}
-use Rattle.base_core.specs.Held.{Held, laid, refusal}
+use Rattle.base_core.specs.PairMaps.{PairMap, laid, refusal}
 use Rattle.script_io.specs.declared.event.Event.{Event}
 use Rattle.script_io.specs.declared.line_error.LineError.{LineError}
 use Rattle.script_io.specs.declared.line_error.LineError.TheVariants.{Long, Past}
 use Rattle.script_io.specs.Reading.{Reading, IsAsked}
-use Rattle.script_io.specs.Shown.{event}
+use Rattle.script_io.specs.Meanings.{event}
 use Rattle.script_io.proofs.Faults.{fault-none}
 use Rattle.shard_cmd.specs.declared.events.Stop.TheVariants.{Syntax}
 use Rattle.shard_cmd.specs.declared.reply.Reply.{Reply}
@@ -56,11 +56,11 @@ refused_past old new (Some left) after r error is at asked =
 
 -- ---- a pair is laid over
 
-refusal-pair : (held : Held) (key value : List ℕ) → IsPair (key, value) → refusal held key value ≡ (if is_full held key then Some Full else None)
+refusal-pair : (held : PairMap) (key value : List ℕ) → IsPair (key, value) → refusal held key value ≡ (if is_full held key then Some Full else None)
 refusal-pair held key value pair = rw (le-ltb 2114 (length key) pair.key_length, le-ltb 4194304 (length value) pair.value_length, len-entries held.state) refl
 
 -- what came of putting a pair
-pub record IsPut (old new : Held) (key value : List ℕ) (r : Result Unit PutError) : Type 0 where
+pub record IsPut (old new : PairMap) (key value : List ℕ) (r : Result Unit PutError) : Type 0 where
   pub refused : IfSome (refusal old key value) (λ error. r ≡ Err error)
   pub taken : IfNone (refusal old key value) (IsOkUnless r NoMemory)
   pub ok : OnOk r (new ≡ laid old key value)
@@ -74,22 +74,22 @@ put_room : (b : Bool) → IfNone (if b then Some Full else None) (IsOkUnless {T 
 put_room true h = refl
 put_room false h = absurd (cc h)
 
-lays_put : (old new : Held) (key value : List ℕ) (r : Result Unit PutError) → IsPair (key, value) → IsPut old new key value r → r ≡ Ok tt → Lays old new (lines.set key value) true
+lays_put : (old new : PairMap) (key value : List ℕ) (r : Result Unit PutError) → IsPair (key, value) → IsPut old new key value r → r ≡ Ok tt → Lays old new (lines.set key value) true
 lays_put old new key value r pair put is =
     let refused = subst (λ (o : Option PutError). IfSome o (λ error. r ≡ Err error)) (refusal-pair old key value pair) put.refused in
     let ok = subst (λ (r : Result Unit PutError). OnOk r (new ≡ laid old key value)) is put.ok in
     (put_full (is_full old key) r refused is, ok)
 
-lays_none : (old new : Held) (key value : List ℕ) (r : Result Unit PutError) → IsPair (key, value) → IsPut old new key value r → r ≡ Err Full → Lays old new (lines.set key value) false
+lays_none : (old new : PairMap) (key value : List ℕ) (r : Result Unit PutError) → IsPair (key, value) → IsPut old new key value r → r ≡ Err Full → Lays old new (lines.set key value) false
 lays_none old new key value r pair put is =
     let taken = subst (λ (o : Option PutError). IfNone o (IsOkUnless r NoMemory)) (refusal-pair old key value pair) put.taken in
     let err = subst (λ (r : Result Unit PutError). OnErr r (new ≡ old)) is put.err in
     (put_room (is_full old key) (subst (λ (r : Result Unit PutError). IfNone (if is_full old key then Some Full else None) (IsOkUnless r NoMemory)) is taken), err)
 
-pub lays_ok : (old new : Held) (asked : Event) (key value : List ℕ) (r : Result Unit PutError) → event asked ≡ lines.set key value → SetsPair (event asked) → IsPut old new key value r → r ≡ Ok tt → Lays old new (event asked) true
+pub lays_ok : (old new : PairMap) (asked : Event) (key value : List ℕ) (r : Result Unit PutError) → event asked ≡ lines.set key value → SetsPair (event asked) → IsPut old new key value r → r ≡ Ok tt → Lays old new (event asked) true
 lays_ok old new asked key value r e within put is = subst (λ a. Lays old new a true) (sym e) (lays_put old new key value r (subst SetsPair e within) put is)
 
-pub lays_full : (old new : Held) (asked : Event) (key value : List ℕ) (r : Result Unit PutError) → event asked ≡ lines.set key value → SetsPair (event asked) → IsPut old new key value r → r ≡ Err Full → Lays old new (event asked) false
+pub lays_full : (old new : PairMap) (asked : Event) (key value : List ℕ) (r : Result Unit PutError) → event asked ≡ lines.set key value → SetsPair (event asked) → IsPut old new key value r → r ≡ Err Full → Lays old new (event asked) false
 lays_full old new asked key value r e within put is = subst (λ a. Lays old new a false) (sym e) (lays_none old new key value r (subst SetsPair e within) put is)
 
 -- ---- the events of a script
@@ -131,15 +131,15 @@ asks_of : (after new_after : Option (List ℕ)) (old new : Reading) (found : Eve
 asks_of None new_after old new found h = tt
 asks_of (Some left) new_after old new found h = h
 
-set_step : (limits : RunLimits) (held : Held) (number : ℕ) (key value : List ℕ) → limits.pairs ≡ held.most → is_full held key ≡ false → (others : State → Output) → after_line limits number (Some (lines.set key value)) held.state others ≡ others (insert held.state key value)
+set_step : (limits : RunLimits) (held : PairMap) (number : ℕ) (key value : List ℕ) → limits.pairs ≡ held.most → is_full held key ≡ false → (others : State → Output) → after_line limits number (Some (lines.set key value)) held.state others ≡ others (insert held.state key value)
 set_step limits held number key value same full others = rw (same, full) refl
 
-laid_step : (limits : RunLimits) (held next : Held) (number : ℕ) (asked : lines.Event) → limits.pairs ≡ held.most → Lays held next asked true → (others : State → Output) → after_line limits number (Some asked) held.state others ≡ others next.state
-laid_step limits held next number lines.nothing same l others = ap (λ (h : Held). others h.state) (sym l)
-laid_step limits held next number (lines.set key value) same l others = set_step limits held number key value same l.0 others ∙ ap (λ (h : Held). others h.state) (sym l.1)
+laid_step : (limits : RunLimits) (held next : PairMap) (number : ℕ) (asked : lines.Event) → limits.pairs ≡ held.most → Lays held next asked true → (others : State → Output) → after_line limits number (Some asked) held.state others ≡ others next.state
+laid_step limits held next number lines.nothing same l others = ap (λ (h : PairMap). others h.state) (sym l)
+laid_step limits held next number (lines.set key value) same l others = set_step limits held number key value same l.0 others ∙ ap (λ (h : PairMap). others h.state) (sym l.1)
 
 -- the event was done
-pub IsUpTo-laid : (left after new_after : Option (List ℕ)) (most : ℕ) (old new : Reading) (held next : Held) (found : Event) → held.most ≡ most → IsNext old new
+pub IsUpTo-laid : (left after new_after : Option (List ℕ)) (most : ℕ) (old new : Reading) (held next : PairMap) (found : Event) → held.most ≡ most → IsNext old new
     → IfSome after (λ left. NextIs (old.pending ++ left) old new new_after (Ok (Some found))) → Lays held next (event found) true → IsUpTo left most old after held.state → IsUpTo left most new new_after next.state
 IsUpTo-laid left after new_after most old new held next found m step h l u = record {
   told = λ limits same. goes_on left after new_after limits old new held.state next.state (event found) step.lines (laid_step limits held next (old.lines + 1) (event found) (same ∙ sym m) l) (u.told limits same) (asks_of after new_after old new found h);
@@ -172,15 +172,15 @@ ends_unread (Some input) after new_after most number old new state limits same n
     ∙ ap (λ o. after_line limits (old.lines + 1) o state (λ s. lines_output limits (old.before + length (first_line (old.pending ++ told.0)) + first_feed (old.pending ++ told.0)) (old.lines + 1 + 1) s (pieces (behind_line (old.pending ++ told.0))))) bad.1
     ∙ ap syntax_at (sym n)
 
-full_step : (limits : RunLimits) (held : Held) (number : ℕ) (key value : List ℕ) → limits.pairs ≡ held.most → is_full held key ≡ true → (others : State → Output) → after_line limits number (Some (lines.set key value)) held.state others ≡ full_pairs
+full_step : (limits : RunLimits) (held : PairMap) (number : ℕ) (key value : List ℕ) → limits.pairs ≡ held.most → is_full held key ≡ true → (others : State → Output) → after_line limits number (Some (lines.set key value)) held.state others ≡ full_pairs
 full_step limits held number key value same full others = rw (same, full) refl
 
-no_room : (limits : RunLimits) (held next : Held) (number : ℕ) (asked : lines.Event) → limits.pairs ≡ held.most → Lays held next asked false → (others : State → Output) → after_line limits number (Some asked) held.state others ≡ full_pairs
+no_room : (limits : RunLimits) (held next : PairMap) (number : ℕ) (asked : lines.Event) → limits.pairs ≡ held.most → Lays held next asked false → (others : State → Output) → after_line limits number (Some asked) held.state others ≡ full_pairs
 no_room limits held next number lines.nothing same l others = absurd l
 no_room limits held next number (lines.set key value) same l others = full_step limits held number key value same l.0 others
 
 -- there was no room for the event
-pub ends_full : (left after new_after : Option (List ℕ)) (most : ℕ) (old new : Reading) (held next : Held) (found : Event) (limits : RunLimits) → limits.pairs ≡ most → held.most ≡ most → IsNext old new
+pub ends_full : (left after new_after : Option (List ℕ)) (most : ℕ) (old new : Reading) (held next : PairMap) (found : Event) (limits : RunLimits) → limits.pairs ≡ most → held.most ≡ most → IsNext old new
     → IfSome after (λ left. NextIs (old.pending ++ left) old new new_after (Ok (Some found))) → Lays held next (event found) false → IsUpTo left most old after held.state → IfSome left (λ input. root_output limits input ≡ full_pairs)
 ends_full None after new_after most old new held next found limits same m step h l u = tt
 ends_full (Some input) after new_after most old new held next found limits same m step h l u =

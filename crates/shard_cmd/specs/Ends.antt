@@ -2,7 +2,7 @@
 use Rattle.std.specs.Prelude.{◌≡◌, ℕ, List, ◌++◌, Option, None, Some, ◌⊎◌}
 use Rattle.base_core.specs.declared.limits.Limits.{Limits}
 use Rattle.output_model.specs.Ends.{Output, Ending, RunLimits, done, usage, unread, refused}
-use Rattle.script_io.specs.Streams.{AppendsFront}
+use Rattle.script_io.specs.Streams.{AppendsPrefix}
 use Rattle.shard_cmd.specs.declared.status.Status.{Status}
 use Rattle.shard_cmd.specs.declared.status.Status.TheVariants.{Done, NoMemory, Usage, Syntax, Refused, ReadFault, WriteFault}
 
@@ -20,10 +20,10 @@ ending_of Refused = Some refused
 ending_of ReadFault = None
 ending_of WriteFault = None
 
--- The status is the defined ending, and all defined bytes were written and nothing else. Where memory or an object of the outside failed, a front of them was.
+-- The status is the defined ending, and all defined bytes were written and nothing else. Where memory or an object of the outside failed, a prefix of them was.
 abbrev pub EndsAs : Output → Option Ending → List ℕ → Option (List ℕ) → Type 0
 EndsAs output (Some ending) before after = (ending ≡ output.ending) × (after ≡ Some (before ++ output.bytes))
-EndsAs output None before after = AppendsFront before after output.bytes
+EndsAs output None before after = AppendsPrefix before after output.bytes
 
 -- what a run may end with whose words are no command
 abbrev pub IsUsageUnlessFailed : Status → Type 0

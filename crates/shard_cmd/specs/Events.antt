@@ -1,7 +1,7 @@
 -- What comes of asking for the next event of a script.
 use Rattle.std.specs.Prelude.{◌≡◌, ◌≢◌, ℕ, ◌+◌, ◌<◌, ◌≤◌, List, [], ◌++◌, length, nat_le, not, ◌&&◌, Bool, true, false, Option, None, Some, Result, Ok, Err}
 use Rattle.std.specs.FinMap.{len, contains_key}
-use Rattle.base_core.specs.Held.{Held, laid}
+use Rattle.base_core.specs.PairMaps.{PairMap, laid}
 use Rattle.script_model.specs.Lines as lines
 use Rattle.script_model.specs.Lines.{event_if, first_fault, first_line, first_feed, behind_line, longest_input}
 use Rattle.output_model.specs.Ends.{Output, syntax_at, full_pairs}
@@ -9,7 +9,7 @@ use Rattle.output_model.specs.Root.{root_done}
 use Rattle.trie_model.specs.State.{State, IsPair}
 use Rattle.script_io.specs.declared.event.Event.{Event}
 use Rattle.script_io.specs.Reading.{Reading}
-use Rattle.script_io.specs.Shown.{event}
+use Rattle.script_io.specs.Meanings.{event}
 use Rattle.shard_cmd.specs.declared.events.Stop.{Stop}
 use Rattle.shard_cmd.specs.declared.events.Stop.TheVariants.{Syntax, ReadFault, NoMemory}
 use Rattle.shard_cmd.specs.declared.root.End.{End}
@@ -46,7 +46,7 @@ end_output (Unread number) state = syntax_at number
 end_output Full state = full_pairs
 
 -- whether there is no room for a pair of this key
-abbrev pub is_full : Held → List ℕ → Bool
+abbrev pub is_full : PairMap → List ℕ → Bool
 is_full held key = nat_le held.most (len held.state) && not (contains_key held.state key)
 
 -- the pair that an event sets is within the limits of keys and values
@@ -55,7 +55,7 @@ SetsPair lines.nothing = Unit {0}
 SetsPair (lines.set key value) = IsPair (key, value)
 
 -- What an event asks for was done, where there was room for it; else nothing was.
-abbrev pub Lays : (old new : Held) → lines.Event → Bool → Type 0
+abbrev pub Lays : (old new : PairMap) → lines.Event → Bool → Type 0
 Lays old new lines.nothing true = new ≡ old
 Lays old new lines.nothing false = ⊥
 Lays old new (lines.set key value) true = (is_full old key ≡ false) × (new ≡ laid old key value)

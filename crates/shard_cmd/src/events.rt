@@ -1,7 +1,7 @@
 ghost use Rattle.std.specs.Prelude.{◌≡◌, ◌+◌, ◌≤◌, ◌++◌, Err, IfOk, IfSome};
 ghost use Rattle.base_core.specs.Faults.{Rose};
 ghost use Rattle.shard_cmd.specs.Events.{NextIs, IsNext, SetsPair};
-ghost use Rattle.script_io.specs.Shown.{event};
+ghost use Rattle.script_io.specs.Meanings.{event};
 
 use script_io::{Event, EventError, LineError, Lines, Source, read_event};
 use std::alloc::Global;

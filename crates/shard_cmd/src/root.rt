@@ -6,7 +6,7 @@ ghost use Rattle.output_model.specs.Ends.{RunLimits};
 ghost use Rattle.output_model.specs.Root.{root_output};
 ghost use Rattle.shard_cmd.specs.Ends.{run_limits, IsAnswer};
 ghost use Rattle.shard_cmd.specs.Events.{end_output, SetsPair, Lays};
-ghost use Rattle.script_io.specs.Shown.{event};
+ghost use Rattle.script_io.specs.Meanings.{event};
 ghost use Rattle.shard_cmd.specs.Replies.{IsReply};
 
 use crate::events::{Stop, next_event};

@@ -2,6 +2,6 @@ pub mod Walked
 pub mod Keyed
 pub mod Stored
 pub mod Tables
-pub mod StockLemmas
+pub mod StoreStates
 pub mod Changes
 pub mod Visiting

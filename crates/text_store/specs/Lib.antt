@@ -1,5 +1,5 @@
 pub mod Loading
 pub mod Counting
 pub mod Failing
-pub mod Memory
+pub mod StoreStates
 pub mod Visiting

@@ -7,7 +7,7 @@ ghost use Rattle.base_core.specs.Faults.{Rose, IsCounted};
 ghost use Rattle.text_store.specs.Loading.{IsNamed, Loaded, NO_NAME};
 ghost use Rattle.text_store.specs.Counting.{IsStored, IsUnchanged, Adds, Releases, AnswersAdd};
 ghost use Rattle.text_store.specs.Failing.{fails_next, after_call};
-ghost use Rattle.text_store.specs.Memory.{count_in, after_load};
+ghost use Rattle.text_store.specs.StoreStates.{count_in, after_load};
 ghost use Rattle.text_store.specs.contracts.mem_nodes.MemNodes.{the_row};
 
 use crate::errors::{AddError, ReserveError};
@@ -30,11 +30,11 @@ pub struct MemNodes {
 
 impl Model for MemNodes {
     ghost use Rattle.std.specs.HashMap.{spare};
-    ghost use Rattle.text_store.specs.Memory.{Stock, stock_code, texts_of, counts_of, IsKept};
+    ghost use Rattle.text_store.specs.StoreStates.{StoreState, store_state_code, texts_of, counts_of, IsKept};
 
-    ghost Value = { Stock };
+    ghost Value = { StoreState };
 
-    ghost coded = { stock_code };
+    ghost coded = { store_state_code };
 
     ghost view = { λ s. record {
       texts = texts_of s.held.entries;

@@ -9,14 +9,14 @@ use Rattle.byte_model.specs.PackedPath.{packed}
 use Rattle.byte_model.specs.Node.{cost_of}
 use Rattle.byte_model.proofs.Paths.{length-packed}
 use Rattle.trie_model.specs.State.{State, Row, rows_of, IsState, IsPair}
-use Rattle.trie_model.specs.Tree.{branch, rest_behind, below, ends_here, common_front, longest, tree_of}
+use Rattle.trie_model.specs.Tree.{branch, rest_behind, below, ends_here, common_prefix, longest, tree_of}
 use Rattle.std.specs.FinMap.{entries}
 use Rattle.std.proofs.lemmas.List.{length-map}
 use Rattle.byte_model.proofs.Digits.{length-nibbles}
 use Rattle.trie_model.specs.Root.{subtree_at}
 use Rattle.trie_model.proofs.Worked.{Pair, rows_of_pairs}
 use Rattle.trie_model.specs.Texts.{top_cost, usage}
-use Rattle.trie_model.proofs.Rests.{HasFront, AllHaveFront, common_front-all}
+use Rattle.trie_model.proofs.Rests.{HasPrefix, AllHavePrefix, common_prefix-all}
 use Rattle.trie_model.proofs.Trees.{needed, needed-below, needed-longest, length-rest_behind, tree_of-nil, tree_of-one, tree_of-forks, tree_of-shares, by_cases}
 
 -- ---- sums over nibbles
@@ -77,12 +77,12 @@ module _ (weight : List ℕ → ℕ) where
   top_weight None = 0
   top_weight (Some value) = weight value
 
-  weight_of-below : (front : List ℕ) (rows : List Row) → weight_of (below front rows) ≤ weight_of rows
+  weight_of-below : (prefix : List ℕ) (rows : List Row) → weight_of (below prefix rows) ≤ weight_of rows
   unfolding weight_of below
-  weight_of-below front [] = omega arith
-  weight_of-below front (row ∷ rows) =
-      let further = weight_of-below front rows in
-      elim (rest_behind front row.0) as (λ r. weight_of (cons_option (option_map (λ rest. (rest, row.1)) r) (below front rows)) ≤ weight row.1 + weight_of rows) [
+  weight_of-below prefix [] = omega arith
+  weight_of-below prefix (row ∷ rows) =
+      let further = weight_of-below prefix rows in
+      elim (rest_behind prefix row.0) as (λ r. weight_of (cons_option (option_map (λ rest. (rest, row.1)) r) (below prefix rows)) ≤ weight row.1 + weight_of rows) [
         | None ↦ omega arith
         | Some rest ↦ omega arith
       ]
@@ -127,23 +127,23 @@ node_cost = 4280
 abbrev IsBounded : List Row → Type 0
 IsBounded rows = longest rows ≤ 4228 → usage (tree_of rows) ≤ weight_of value_cost rows + weight_of one rows * (needed rows * node_cost)
 
-longest-below : (front : List ℕ) (rows : List Row) → longest (below front rows) ≤ longest rows
+longest-below : (prefix : List ℕ) (rows : List Row) → longest (below prefix rows) ≤ longest rows
 unfolding longest below
-longest-below front [] = omega arith
-longest-below front (row ∷ rows) =
-    let further = longest-below front rows in
-    elim (rest_behind front row.0) as (λ r. rest_behind front row.0 ≡ r → longest (cons_option (option_map (λ rest. (rest, row.1)) r) (below front rows)) ≤ max (length row.0) (longest rows)) [
+longest-below prefix [] = omega arith
+longest-below prefix (row ∷ rows) =
+    let further = longest-below prefix rows in
+    elim (rest_behind prefix row.0) as (λ r. rest_behind prefix row.0 ≡ r → longest (cons_option (option_map (λ rest. (rest, row.1)) r) (below prefix rows)) ≤ max (length row.0) (longest rows)) [
       | None ↦ λ e. omega arith
-      | Some rest ↦ λ e. let shorter = length-rest_behind front row.0 rest e in omega arith
+      | Some rest ↦ λ e. let shorter = length-rest_behind prefix row.0 rest e in omega arith
     ] refl
 
 length-packed_le : (ends : Bool) (path : List ℕ) → length path ≤ 4228 → 50 + 2 * length (packed ends path) ≤ node_cost
 length-packed_le ends path h = let n = length-packed ends path in omega arith
 
-front_length : (front : List ℕ) (row : Row) (rows : List Row) → HasFront front row.0 → longest (row ∷ rows) ≤ 4228 → length front ≤ 4228
+prefix_length : (prefix : List ℕ) (row : Row) (rows : List Row) → HasPrefix prefix row.0 → longest (row ∷ rows) ≤ 4228 → length prefix ≤ 4228
 unfolding longest
-front_length front row rows h short =
-    let whole : length row.0 ≡ length front + length h.0 = ap length h.1 ∙ length-append front h.0 in
+prefix_length prefix row rows h short =
+    let whole : length row.0 ≡ length prefix + length h.0 = ap length h.1 ∙ length-append prefix h.0 in
     omega arith
 
 -- a share of the rows that goes less deep
@@ -176,7 +176,7 @@ top_weight-cost : (value : Option (List ℕ)) → cost_of 0 (option_map length v
 top_weight-cost None = refl
 top_weight-cost (Some value) = refl
 
-bounded_forks : (row next : Row) (rows : List Row) → common_front row (next ∷ rows) ≡ [] → ((x : ℕ) → IsBounded (below (x ∷ []) (row ∷ next ∷ rows))) → IsBounded (row ∷ next ∷ rows)
+bounded_forks : (row next : Row) (rows : List Row) → common_prefix row (next ∷ rows) ≡ [] → ((x : ℕ) → IsBounded (below (x ∷ []) (row ∷ next ∷ rows))) → IsBounded (row ∷ next ∷ rows)
 unfolding usage top_cost
 bounded_forks row next rows e further h = go (row ∷ next ∷ rows) (tree_of-forks row next rows e) (needed-some row (next ∷ rows)) (count-some row (next ∷ rows)) further h
   where
@@ -185,12 +185,12 @@ bounded_forks row next rows e further h = go (row ∷ next ∷ rows) (tree_of-fo
         let depth : ℕ = (needed rs - 1) * node_cost in
         let values : ℕ → ℕ = λ x. weight_of value_cost (below (x ∷ []) rs) in
         let counts : ℕ → ℕ = λ x. weight_of one (below (x ∷ []) rs) in
-        let kid : (x : ℕ) → usage (tree_of (below (x ∷ []) rs)) ≤ values x + counts x * depth = λ x.
+        let child : (x : ℕ) → usage (tree_of (below (x ∷ []) rs)) ≤ values x + counts x * depth = λ x.
         let shorter = longest-below (x ∷ []) rs in
         let bound = each x (omega arith) in
         let flat = less_deep (counts x) (needed (below (x ∷ []) rs)) (needed rs) (needed-below x [] rs) in
         omega arith in
-        let kids = sum_below-le (λ x. usage (tree_of (below (x ∷ []) rs))) (λ x. values x + counts x * depth) 16 kid in
+        let kids = sum_below-le (λ x. usage (tree_of (below (x ∷ []) rs))) (λ x. values x + counts x * depth) 16 child in
         let sums = sum_below-add_mul values counts depth 16 in
         let all_values = weight_of-nibbles value_cost rs in
         let all_counts = weight_of-nibbles one rs in
@@ -199,21 +199,21 @@ bounded_forks row next rows e further h = go (row ∷ next ∷ rows) (tree_of-fo
         let top = top_weight-cost (ends_here rs) in
         rw t (omega arith)
 
-bounded_shares : (row next : Row) (rows : List Row) (x : ℕ) (front : List ℕ) → common_front row (next ∷ rows) ≡ x ∷ front → IsBounded (below (x ∷ front) (row ∷ next ∷ rows)) → IsBounded (row ∷ next ∷ rows)
+bounded_shares : (row next : Row) (rows : List Row) (x : ℕ) (prefix : List ℕ) → common_prefix row (next ∷ rows) ≡ x ∷ prefix → IsBounded (below (x ∷ prefix) (row ∷ next ∷ rows)) → IsBounded (row ∷ next ∷ rows)
 unfolding usage top_cost
-bounded_shares row next rows x front e further short =
+bounded_shares row next rows x prefix e further short =
     let rs : List Row = row ∷ next ∷ rows in
-    let all = subst (λ (f : List ℕ). AllHaveFront f rs) e (common_front-all row (next ∷ rows)) in
-    let path : length (x ∷ front) ≤ 4228 = front_length (x ∷ front) row (next ∷ rows) all.0 short in
-    let node = length-packed_le false (x ∷ front) path in
-    let shorter = longest-below (x ∷ front) rs in
+    let all = subst (λ (f : List ℕ). AllHavePrefix f rs) e (common_prefix-all row (next ∷ rows)) in
+    let path : length (x ∷ prefix) ≤ 4228 = prefix_length (x ∷ prefix) row (next ∷ rows) all.0 short in
+    let node = length-packed_le false (x ∷ prefix) path in
+    let shorter = longest-below (x ∷ prefix) rs in
     let bound = further (omega arith) in
-    let values = weight_of-below value_cost (x ∷ front) rs in
-    let counts = weight_of-below one (x ∷ front) rs in
-    let flat = less_deep (weight_of one (below (x ∷ front) rs)) (needed (below (x ∷ front) rs)) (needed rs) (needed-below x front rs) in
-    let fewer : weight_of one (below (x ∷ front) rs) * ((needed rs - 1) * node_cost) ≤ weight_of one rs * ((needed rs - 1) * node_cost) = mul-le-mul_right ((needed rs - 1) * node_cost) counts in
+    let values = weight_of-below value_cost (x ∷ prefix) rs in
+    let counts = weight_of-below one (x ∷ prefix) rs in
+    let flat = less_deep (weight_of one (below (x ∷ prefix) rs)) (needed (below (x ∷ prefix) rs)) (needed rs) (needed-below x prefix rs) in
+    let fewer : weight_of one (below (x ∷ prefix) rs) * ((needed rs - 1) * node_cost) ≤ weight_of one rs * ((needed rs - 1) * node_cost) = mul-le-mul_right ((needed rs - 1) * node_cost) counts in
     let step = one_step (weight_of one rs) (needed rs) (count-some row (next ∷ rows)) (needed-some row (next ∷ rows)) in
-    rw (tree_of-shares row next rows x front e) (omega arith)
+    rw (tree_of-shares row next rows x prefix e) (omega arith)
 
 pub usage-tree_of-le : (rows : List Row) → longest rows ≤ 4228 → usage (tree_of rows) ≤ weight_of value_cost rows + weight_of one rows * (needed rows * node_cost)
 unfolding usage

@@ -11,19 +11,19 @@ use Rattle.trie_model.specs.Texts.{behind, places, node_of}
 use Rattle.trie_model.specs.Root.{subtree_at, places_of}
 use Rattle.trie_model.specs.Laws.{ChildrenArePlaces}
 use Rattle.trie_model.proofs.Members.{IsIn, in-map, in_map_from, in-joined_below, in_joined_below_from, contains_of_in, in_of_contains}
-use Rattle.trie_model.proofs.Rests.{below-nil, below-append, below-some, AllHaveFront, common_front-all, none_cons, first_same, rest_same, rest_behind-front}
+use Rattle.trie_model.proofs.Rests.{below-nil, below-append, below-some, AllHavePrefix, common_prefix-all, none_cons, first_same, rest_same, rest_behind-prefix}
 use Rattle.trie_model.proofs.Trees.{tree_of-nil, tree_of-one, tree_of-forks, tree_of-shares, by_cases}
 use Rattle.trie_model.proofs.Costs.{subtree_at-root, IfSome-weaker}
 
 -- ---- paths
 
-append_same : (front p q : List ℕ) → front ++ p ≡ front ++ q → p ≡ q
-append_same front p q e = append_cancel_left front p q e
+append_same : (prefix p q : List ℕ) → prefix ++ p ≡ prefix ++ q → p ≡ q
+append_same prefix p q e = append_cancel_left prefix p q e
 
-in_behind : (front path : List ℕ) (paths : List (List ℕ)) → IsIn (behind front paths) (front ++ path) → IsIn paths path
-in_behind front path paths h =
-    let r = in_map_from (λ (p : List ℕ). front ++ p) paths (front ++ path) h in
-    subst (IsIn paths) (append_same front r.0 path r.2) r.1
+in_behind : (prefix path : List ℕ) (paths : List (List ℕ)) → IsIn (behind prefix paths) (prefix ++ path) → IsIn paths path
+in_behind prefix path paths h =
+    let r = in_map_from (λ (p : List ℕ). prefix ++ p) paths (prefix ++ path) h in
+    subst (IsIn paths) (append_same prefix r.0 path r.2) r.1
 
 -- ---- a place has rows below it, and the root is a place where there is a row
 
@@ -37,7 +37,7 @@ root_is_place = by_cases (λ rows. rows ≢ [] → IsIn (places (tree_of rows)) 
   none = λ some. absurd (some refl);
   one = λ row some. subst (λ t. IsIn (places t) []) (sym (tree_of-one row)) (inl refl);
   forks = λ row next rows e further some. subst (λ t. IsIn (places t) []) (sym (tree_of-forks row next rows e)) (inl refl);
-  shares = λ row next rows x front e further some. subst (λ t. IsIn (places t) []) (sym (tree_of-shares row next rows x front e)) (inl refl);
+  shares = λ row next rows x prefix e further some. subst (λ t. IsIn (places t) []) (sym (tree_of-shares row next rows x prefix e)) (inl refl);
 })
 
 pub place_has_rows : (rows : List Row) (p : List ℕ) → IsIn (places (tree_of rows)) p → rows ≢ []
@@ -60,15 +60,15 @@ module _ (value : Option (List ℕ)) (kids : ℕ → Tree) where
       let there : IsIn (places (kids r.0)) p = subst (IsIn (places (kids r.0))) (rest_same m.2) m.1 in
       (subst (λ i. i < 16) same r.1, subst (λ i. IsIn (places (kids i)) p) same there)
 
-module _ (front : List ℕ) (child : Tree) where
-  pub in_extension : (p : List ℕ) → IsIn (places child) p → IsIn (places (extension front child)) (front ++ p)
+module _ (prefix : List ℕ) (child : Tree) where
+  pub in_extension : (p : List ℕ) → IsIn (places child) p → IsIn (places (extension prefix child)) (prefix ++ p)
   unfolding places
-  in_extension p h = inr (in-map (λ (q : List ℕ). front ++ q) (places child) p h)
+  in_extension p h = inr (in-map (λ (q : List ℕ). prefix ++ q) (places child) p h)
 
-  pub in_extension_from : (p : List ℕ) → IsIn (places (extension front child)) p → ([] ≡ p) ⊎ ((q : List ℕ) × IsIn (places child) q × (front ++ q ≡ p))
+  pub in_extension_from : (p : List ℕ) → IsIn (places (extension prefix child)) p → ([] ≡ p) ⊎ ((q : List ℕ) × IsIn (places child) q × (prefix ++ q ≡ p))
   unfolding places
   in_extension_from p (inl e) = inl e
-  in_extension_from p (inr h) = inr (in_map_from (λ (q : List ℕ). front ++ q) (places child) p h)
+  in_extension_from p (inr h) = inr (in_map_from (λ (q : List ℕ). prefix ++ q) (places child) p h)
 
 -- ---- children
 
@@ -81,28 +81,28 @@ Children rows p (node.extension path child) = IsIn (places (tree_of rows)) (p ++
 abbrev ChildrenAt : List Row → List ℕ → Type 0
 ChildrenAt rows p = IfSome (node_of (tree_of (below p rows))) (Children rows p)
 
--- a part of a trie below a front, whose places stand behind the front
-record IsPart (rows : List Row) (front : List ℕ) : Type 0 where
-  up : (p : List ℕ) → IsIn (places (tree_of (below front rows))) p → IsIn (places (tree_of rows)) (front ++ p)
-  down : (p : List ℕ) → IsIn (places (tree_of rows)) (front ++ p) → IsIn (places (tree_of (below front rows))) p
+-- a part of a trie below a prefix, whose places stand behind the prefix
+record IsPart (rows : List Row) (prefix : List ℕ) : Type 0 where
+  up : (p : List ℕ) → IsIn (places (tree_of (below prefix rows))) p → IsIn (places (tree_of rows)) (prefix ++ p)
+  down : (p : List ℕ) → IsIn (places (tree_of rows)) (prefix ++ p) → IsIn (places (tree_of (below prefix rows))) p
 
-part_children : (rows : List Row) (front : List ℕ) → IsPart rows front → (p : List ℕ) (node : Node) → Children (below front rows) p node → Children rows (front ++ p) node
-part_children rows front part p (node.leaf path value) h = tt
-part_children rows front part p (node.branch value kids) h = λ x.
-    let same_path : (front ++ p) ++ x ∷ [] ≡ front ++ (p ++ x ∷ []) = append_assoc front p (x ∷ []) in
-    let same_rows : below ((front ++ p) ++ x ∷ []) rows ≡ below (p ++ x ∷ []) (below front rows) = ap (λ q. below q rows) same_path ∙ below-append front (p ++ x ∷ []) rows in
+part_children : (rows : List Row) (prefix : List ℕ) → IsPart rows prefix → (p : List ℕ) (node : Node) → Children (below prefix rows) p node → Children rows (prefix ++ p) node
+part_children rows prefix part p (node.leaf path value) h = tt
+part_children rows prefix part p (node.branch value kids) h = λ x.
+    let same_path : (prefix ++ p) ++ x ∷ [] ≡ prefix ++ (p ++ x ∷ []) = append_assoc prefix p (x ∷ []) in
+    let same_rows : below ((prefix ++ p) ++ x ∷ []) rows ≡ below (p ++ x ∷ []) (below prefix rows) = ap (λ q. below q rows) same_path ∙ below-append prefix (p ++ x ∷ []) rows in
     let there = h x in (
       λ i.
           let r = there.0 (part.down (p ++ x ∷ []) (subst (IsIn (places (tree_of rows))) same_path i)) in
           (r.0, λ e. r.1 (sym same_rows ∙ e)),
       λ r. subst (IsIn (places (tree_of rows))) (sym same_path) (part.up (p ++ x ∷ []) (there.1 (r.0, λ e. r.1 (same_rows ∙ e)))),
     )
-part_children rows front part p (node.extension path child) h = subst (IsIn (places (tree_of rows))) (sym (append_assoc front p path)) (part.up (p ++ path) h)
+part_children rows prefix part p (node.extension path child) h = subst (IsIn (places (tree_of rows))) (sym (append_assoc prefix p path)) (part.up (p ++ path) h)
 
-part_children_at : (rows : List Row) (front : List ℕ) → IsPart rows front → (p : List ℕ) → ChildrenAt (below front rows) p → ChildrenAt rows (front ++ p)
-part_children_at rows front part p h =
-    subst (λ rs. IfSome (node_of (tree_of rs)) (Children rows (front ++ p))) (sym (below-append front p rows))
-    (IfSome-weaker (node_of (tree_of (below p (below front rows)))) (Children (below front rows) p) (Children rows (front ++ p)) (part_children rows front part p) h)
+part_children_at : (rows : List Row) (prefix : List ℕ) → IsPart rows prefix → (p : List ℕ) → ChildrenAt (below prefix rows) p → ChildrenAt rows (prefix ++ p)
+part_children_at rows prefix part p h =
+    subst (λ rs. IfSome (node_of (tree_of rs)) (Children rows (prefix ++ p))) (sym (below-append prefix p rows))
+    (IfSome-weaker (node_of (tree_of (below p (below prefix rows)))) (Children (below prefix rows) p) (Children rows (prefix ++ p)) (part_children rows prefix part p) h)
 
 branch_part : (rows : List Row) (value : Option (List ℕ)) → tree_of rows ≡ branch value (λ x. tree_of (below (x ∷ []) rows)) → (x : ℕ) → x < 16 → IsPart rows (x ∷ [])
 branch_part rows value e x small = record {
@@ -110,15 +110,15 @@ branch_part rows value e x small = record {
   down = λ p h. (in_branch_from value (λ i. tree_of (below (i ∷ []) rows)) x p (subst (λ t. IsIn (places t) (x ∷ p)) e h)).1;
 }
 
-extension_part : (rows : List Row) (x : ℕ) (front : List ℕ) → tree_of rows ≡ extension (x ∷ front) (tree_of (below (x ∷ front) rows)) → IsPart rows (x ∷ front)
-extension_part rows x front e = record {
-  up = λ p h. subst (λ t. IsIn (places t) (x ∷ front ++ p)) (sym e) (in_extension (x ∷ front) (tree_of (below (x ∷ front) rows)) p h);
-  down = λ p h. go p (in_extension_from (x ∷ front) (tree_of (below (x ∷ front) rows)) (x ∷ front ++ p) (subst (λ t. IsIn (places t) (x ∷ front ++ p)) e h));
+extension_part : (rows : List Row) (x : ℕ) (prefix : List ℕ) → tree_of rows ≡ extension (x ∷ prefix) (tree_of (below (x ∷ prefix) rows)) → IsPart rows (x ∷ prefix)
+extension_part rows x prefix e = record {
+  up = λ p h. subst (λ t. IsIn (places t) (x ∷ prefix ++ p)) (sym e) (in_extension (x ∷ prefix) (tree_of (below (x ∷ prefix) rows)) p h);
+  down = λ p h. go p (in_extension_from (x ∷ prefix) (tree_of (below (x ∷ prefix) rows)) (x ∷ prefix ++ p) (subst (λ t. IsIn (places t) (x ∷ prefix ++ p)) e h));
 }
   where
-    go : (p : List ℕ) → ([] ≡ x ∷ front ++ p) ⊎ ((q : List ℕ) × IsIn (places (tree_of (below (x ∷ front) rows))) q × (x ∷ front ++ q ≡ x ∷ front ++ p)) → IsIn (places (tree_of (below (x ∷ front) rows))) p
-    go p (inl none) = absurd (none_cons x (front ++ p) none)
-    go p (inr r) = subst (IsIn (places (tree_of (below (x ∷ front) rows)))) (append_same (x ∷ front) r.0 p r.2) r.1
+    go : (p : List ℕ) → ([] ≡ x ∷ prefix ++ p) ⊎ ((q : List ℕ) × IsIn (places (tree_of (below (x ∷ prefix) rows))) q × (x ∷ prefix ++ q ≡ x ∷ prefix ++ p)) → IsIn (places (tree_of (below (x ∷ prefix) rows))) p
+    go p (inl none) = absurd (none_cons x (prefix ++ p) none)
+    go p (inr r) = subst (IsIn (places (tree_of (below (x ∷ prefix) rows)))) (append_same (x ∷ prefix) r.0 p r.2) r.1
 
 -- ---- each place's children
 
@@ -132,9 +132,9 @@ branch_places P rows value e top step further (x ∷ p) h =
     let r = in_branch_from value (λ i. tree_of (below (i ∷ []) rows)) x p (subst (λ t. IsIn (places t) (x ∷ p)) e h) in
     step x p r.0 (further x p r.1)
 
-extension_places : (P : List Row → List ℕ → Type 0) (rows : List Row) (front : List ℕ) → tree_of rows ≡ extension front (tree_of (below front rows)) → P rows [] → ((p : List ℕ) → P (below front rows) p → P rows (front ++ p)) → AtPlaces P (below front rows) → AtPlaces P rows
-extension_places P rows front e top step further p h =
-    elim (in_extension_from front (tree_of (below front rows)) p (subst (λ t. IsIn (places t) p) e h)) [
+extension_places : (P : List Row → List ℕ → Type 0) (rows : List Row) (prefix : List ℕ) → tree_of rows ≡ extension prefix (tree_of (below prefix rows)) → P rows [] → ((p : List ℕ) → P (below prefix rows) p → P rows (prefix ++ p)) → AtPlaces P (below prefix rows) → AtPlaces P rows
+extension_places P rows prefix e top step further p h =
+    elim (in_extension_from prefix (tree_of (below prefix rows)) p (subst (λ t. IsIn (places t) p) e h)) [
       | inl none ↦ subst (P rows) none top
       | inr r ↦ subst (P rows) r.2 (step r.0 (further r.0 r.1))
     ]
@@ -150,12 +150,12 @@ branch_top rows value e =
       λ r. subst (λ t. IsIn (places t) (x ∷ [])) (sym e) (in_branch value (λ j. tree_of (below (j ∷ []) rows)) x [] r.0 (root_is_place (below (x ∷ []) rows) r.1)),
     )))
 
-extension_top : (rows : List Row) (x : ℕ) (front : List ℕ) → tree_of rows ≡ extension (x ∷ front) (tree_of (below (x ∷ front) rows)) → below (x ∷ front) rows ≢ [] → ChildrenAt rows []
+extension_top : (rows : List Row) (x : ℕ) (prefix : List ℕ) → tree_of rows ≡ extension (x ∷ prefix) (tree_of (below (x ∷ prefix) rows)) → below (x ∷ prefix) rows ≢ [] → ChildrenAt rows []
 unfolding node_of
-extension_top rows x front e some =
+extension_top rows x prefix e some =
     subst (λ rs. IfSome (node_of (tree_of rs)) (Children rows [])) (sym (below-nil rows))
     (subst (λ t. IfSome (node_of t) (Children rows [])) (sym e)
-    (subst (IsIn (places (tree_of rows))) (append-nil (x ∷ front)) ((extension_part rows x front e).up [] (root_is_place (below (x ∷ front) rows) some))))
+    (subst (IsIn (places (tree_of rows))) (append-nil (x ∷ prefix)) ((extension_part rows x prefix e).up [] (root_is_place (below (x ∷ prefix) rows) some))))
 
 leaf_top : (row : Row) → ChildrenAt (row ∷ []) []
 unfolding node_of
@@ -178,11 +178,11 @@ children_at = by_cases (AtPlaces ChildrenAt) (record {
       let rs : List Row = row ∷ next ∷ rows in
       let t = tree_of-forks row next rows e in
       branch_places ChildrenAt rs _ t (branch_top rs _ t) (λ x p small h. part_children_at rs (x ∷ []) (branch_part rs _ t x small) p h) further;
-  shares = λ row next rows x front e further.
+  shares = λ row next rows x prefix e further.
       let rs : List Row = row ∷ next ∷ rows in
-      let t = tree_of-shares row next rows x front e in
-      let all = subst (λ (f : List ℕ). AllHaveFront f rs) e (common_front-all row (next ∷ rows)) in
-      extension_places ChildrenAt rs (x ∷ front) t (extension_top rs x front t (below-some (x ∷ front) row (next ∷ rows) all.0)) (λ p h. part_children_at rs (x ∷ front) (extension_part rs x front t) p h) further;
+      let t = tree_of-shares row next rows x prefix e in
+      let all = subst (λ (f : List ℕ). AllHavePrefix f rs) e (common_prefix-all row (next ∷ rows)) in
+      extension_places ChildrenAt rs (x ∷ prefix) t (extension_top rs x prefix t (below-some (x ∷ prefix) row (next ∷ rows) all.0)) (λ p h. part_children_at rs (x ∷ prefix) (extension_part rs x prefix t) p h) further;
 })
 
 pub children-places_of : (state : State) (place : List ℕ) → Contains (places_of state) place → IfSome (node_of (subtree_at state place)) (ChildrenArePlaces state place)
@@ -229,8 +229,8 @@ subtree_in-place = by_cases (AtPlaces IsSubtree) (record {
       let rs : List Row = row ∷ next ∷ rows in
       let t = tree_of-forks row next rows e in
       branch_places IsSubtree rs _ t (top_subtree rs) (λ x p small h. ap (λ tree. subtree_in tree (x ∷ p)) t ∙ h ∙ ap tree_of (sym (below-append (x ∷ []) p rs))) further;
-  shares = λ row next rows x front e further.
+  shares = λ row next rows x prefix e further.
       let rs : List Row = row ∷ next ∷ rows in
-      let t = tree_of-shares row next rows x front e in
-      extension_places IsSubtree rs (x ∷ front) t (top_subtree rs) (λ p h. ap (λ tree. subtree_in tree (x ∷ front ++ p)) t ∙ ap (λ o. option_map_or (subtree_in (tree_of (below (x ∷ front) rs))) o nothing) (rest_behind-front (x ∷ front) p) ∙ h ∙ ap tree_of (sym (below-append (x ∷ front) p rs))) further;
+      let t = tree_of-shares row next rows x prefix e in
+      extension_places IsSubtree rs (x ∷ prefix) t (top_subtree rs) (λ p h. ap (λ tree. subtree_in tree (x ∷ prefix ++ p)) t ∙ ap (λ o. option_map_or (subtree_in (tree_of (below (x ∷ prefix) rs))) o nothing) (rest_behind-prefix (x ∷ prefix) p) ∙ h ∙ ap tree_of (sym (below-append (x ∷ prefix) p rs))) further;
 })

@@ -75,7 +75,7 @@ children_of rows (node.extension path child) = usage (tree_of (below path rows))
 abbrev AddsUp : List Row → Tree → Type 0
 AddsUp rows tree = IfSome (node_of tree) (λ node. usage tree ≡ own_cost node + children_of rows node)
 
-branch_cost : (value : Option (List ℕ)) → cost_of 0 (option_map length value) ≡ cost_of 0 (option_map (λ (v : ValueRef). v.size) (option_map value_ref value))
+branch_cost : (value : Option (List ℕ)) → cost_of 0 (option_map length value) ≡ cost_of 0 (option_map (λ (v : ValueRef). v.length) (option_map value_ref value))
 branch_cost None = refl
 branch_cost (Some value) = refl
 
@@ -86,7 +86,7 @@ adds_up = by_cases (λ rows. AddsUp rows (tree_of rows)) (record {
   one = λ row. subst (AddsUp (row ∷ [])) (sym (tree_of-one row)) (sym (add-zero _));
   forks = λ row next rows e further. subst (AddsUp (row ∷ next ∷ rows)) (sym (tree_of-forks row next rows e))
       (ap (λ n. n + sum_below (λ x. usage (tree_of (below (x ∷ []) (row ∷ next ∷ rows)))) 16) (branch_cost (ends_here (row ∷ next ∷ rows))));
-  shares = λ row next rows x front e further. subst (AddsUp (row ∷ next ∷ rows)) (sym (tree_of-shares row next rows x front e)) refl;
+  shares = λ row next rows x prefix e further. subst (AddsUp (row ∷ next ∷ rows)) (sym (tree_of-shares row next rows x prefix e)) refl;
 })
 
 children_usage-children_of : (state : State) (place : List ℕ) (node : Node) → children_usage state place node ≡ children_of (below place (rows_of state)) node
@@ -119,7 +119,7 @@ names = by_cases (λ rows. IfSome (node_of (tree_of rows)) (Names rows)) (record
   none = subst (λ t. IfSome (node_of t) (Names [])) (sym tree_of-nil) tt;
   one = λ row. subst (λ t. IfSome (node_of t) (Names (row ∷ []))) (sym (tree_of-one row)) tt;
   forks = λ row next rows e further. subst (λ t. IfSome (node_of t) (Names (row ∷ next ∷ rows))) (sym (tree_of-forks row next rows e)) (λ x. refl);
-  shares = λ row next rows x front e further. subst (λ t. IfSome (node_of t) (Names (row ∷ next ∷ rows))) (sym (tree_of-shares row next rows x front e)) refl;
+  shares = λ row next rows x prefix e further. subst (λ t. IfSome (node_of t) (Names (row ∷ next ∷ rows))) (sym (tree_of-shares row next rows x prefix e)) refl;
 })
 
 names_children : (state : State) (place : List ℕ) (node : Node) → Names (below place (rows_of state)) node → NamesChildren state place node

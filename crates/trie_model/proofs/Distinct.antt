@@ -7,13 +7,13 @@ use Rattle.byte_model.specs.Node.{Node, ValueRef, spelled, IsShaped}
 use Rattle.byte_model.specs.Laws.{FitsRecord, SameNode}
 use Rattle.byte_model.proofs.Spellings.{spelled-same_node}
 use Rattle.trie_model.specs.State.{State, Row, IsState, rows_of}
-use Rattle.trie_model.specs.Tree.{Tree, leaf, branch, extension, below, ends_here, common_front, tree_of}
+use Rattle.trie_model.specs.Tree.{Tree, leaf, branch, extension, below, ends_here, common_prefix, tree_of}
 use Rattle.trie_model.specs.Texts.{text, usage, name_of, node_of, value_ref}
 use Rattle.trie_model.specs.Root.{root, root_of, texts_of, text_at, zero_digest, NoClash}
 use Rattle.trie_model.proofs.Members.{IsIn, all_of, in-map, in-joined_below, contains_of_in, in_of_contains, in-append_left, in-append_right}
 use Rattle.trie_model.proofs.Roots.{rows_of-same, root_text_occurs, root-some}
 use Rattle.trie_model.proofs.Joined.{joined_below-agree}
-use Rattle.trie_model.proofs.Rests.{under, under-below, AllHaveFront, common_front-all}
+use Rattle.trie_model.proofs.Rests.{under, under-below, AllHavePrefix, common_prefix-all}
 use Rattle.trie_model.proofs.Trees.{tree_of-nil, tree_of-one, tree_of-forks, tree_of-shares, by_cases}
 use Rattle.trie_model.proofs.Places.{gathered, tree_texts}
 use Rattle.trie_model.proofs.Costs.{text-node_of, subtree_at-root, texts_of-tree_texts}
@@ -27,11 +27,11 @@ pub record Sound (rows : List Row) : Type 0 where
   pub small : Small rows
   pub short : ShortValues rows
 
-sound-below : (front : List ℕ) (rows : List Row) → Sound rows → Sound (below front rows)
-sound-below front rows s = record {
-  rising = rising-below front rows s.rising;
-  small = small-below front rows s.small;
-  short = short-below front rows s.short;
+sound-below : (prefix : List ℕ) (rows : List Row) → Sound rows → Sound (below prefix rows)
+sound-below prefix rows s = record {
+  rising = rising-below prefix rows s.rising;
+  small = small-below prefix rows s.small;
+  short = short-below prefix rows s.short;
 }
 
 -- ---- names and texts of some rows
@@ -49,7 +49,7 @@ name_of-rows = by_cases (λ rows. rows ≢ [] → (t : List ℕ) → name_of (tr
   none = λ some t. absurd (some refl);
   one = λ row some t. subst (λ tree. name_of tree t ≡ Some (sha256 t)) (sym (tree_of-one row)) refl;
   forks = λ row next rows e further some t. subst (λ tree. name_of tree t ≡ Some (sha256 t)) (sym (tree_of-forks row next rows e)) refl;
-  shares = λ row next rows x front e further some t. subst (λ tree. name_of tree t ≡ Some (sha256 t)) (sym (tree_of-shares row next rows x front e)) refl;
+  shares = λ row next rows x prefix e further some t. subst (λ tree. name_of tree t ≡ Some (sha256 t)) (sym (tree_of-shares row next rows x prefix e)) refl;
 })
 
 name_of-none : (t : List ℕ) → name_of (tree_of []) t ≡ None
@@ -62,7 +62,7 @@ text_in = by_cases (λ rows. rows ≢ [] → IsIn (tree_texts (tree_of rows)) (t
   none = λ some. absurd (some refl);
   one = λ row some. subst (λ tree. IsIn (tree_texts tree) (text tree)) (sym (tree_of-one row)) (inl refl);
   forks = λ row next rows e further some. subst (λ tree. IsIn (tree_texts tree) (text tree)) (sym (tree_of-forks row next rows e)) (inl refl);
-  shares = λ row next rows x front e further some. subst (λ tree. IsIn (tree_texts tree) (text tree)) (sym (tree_of-shares row next rows x front e)) (inl refl);
+  shares = λ row next rows x prefix e further some. subst (λ tree. IsIn (tree_texts tree) (text tree)) (sym (tree_of-shares row next rows x prefix e)) (inl refl);
 })
 
 -- ---- the kinds of nodes that rows can have
@@ -71,16 +71,16 @@ data Kind (rows : List Row) : Type 0 where
   none : rows ≡ [] → Kind rows
   one : (row : Row) → rows ≡ row ∷ [] → Kind rows
   forks : tree_of rows ≡ branch (ends_here rows) (λ x. tree_of (below (x ∷ []) rows)) → Kind rows
-  shares : (front : List ℕ) → AllHaveFront front rows → tree_of rows ≡ extension front (tree_of (below front rows)) → Kind rows
+  shares : (prefix : List ℕ) → AllHavePrefix prefix rows → tree_of rows ≡ extension prefix (tree_of (below prefix rows)) → Kind rows
 
 kind_of : (rows : List Row) → Kind rows
 kind_of [] = none refl
 kind_of (row ∷ []) = one row refl
-kind_of (row ∷ next ∷ rows) = go (common_front row (next ∷ rows)) refl
+kind_of (row ∷ next ∷ rows) = go (common_prefix row (next ∷ rows)) refl
   where
-    go : (front : List ℕ) → common_front row (next ∷ rows) ≡ front → Kind (row ∷ next ∷ rows)
+    go : (prefix : List ℕ) → common_prefix row (next ∷ rows) ≡ prefix → Kind (row ∷ next ∷ rows)
     go [] e = forks (tree_of-forks row next rows e)
-    go (x ∷ front) e = shares (x ∷ front) (subst (λ (f : List ℕ). AllHaveFront f (row ∷ next ∷ rows)) e (common_front-all row (next ∷ rows))) (tree_of-shares row next rows x front e)
+    go (x ∷ prefix) e = shares (x ∷ prefix) (subst (λ (f : List ℕ). AllHavePrefix f (row ∷ next ∷ rows)) e (common_prefix-all row (next ∷ rows))) (tree_of-shares row next rows x prefix e)
 
 fits : (rows : List Row) → Sound rows → (tree : Tree) → tree_of rows ≡ tree → IfSome (node_of tree) (λ n. IsShaped n × FitsRecord n)
 fits rows s tree e = subst (λ t. IfSome (node_of t) (λ n. IsShaped n × FitsRecord n)) e (sound_nodes rows s.rising s.small s.short)
@@ -137,11 +137,11 @@ module _ (texts : List (List ℕ)) (apart : (a b : List ℕ) → IsIn texts a �
     values = all-below (λ row. IsIn texts row.1) (λ row. IsIn texts row.1) (x ∷ []) (λ row rest e' h. h) rows known.values;
   }
 
-  known_extension : (rows : List Row) (front : List ℕ) → tree_of rows ≡ extension front (tree_of (below front rows)) → Known rows → Known (below front rows)
+  known_extension : (rows : List Row) (prefix : List ℕ) → tree_of rows ≡ extension prefix (tree_of (below prefix rows)) → Known rows → Known (below prefix rows)
   unfolding gathered
-  known_extension rows front e known = record {
+  known_extension rows prefix e known = record {
     nodes = λ t h. known.nodes t (subst (λ tree. IsIn (tree_texts tree) t) (sym e) (inr h));
-    values = all-below (λ row. IsIn texts row.1) (λ row. IsIn texts row.1) front (λ row rest e' h. h) rows known.values;
+    values = all-below (λ row. IsIn texts row.1) (λ row. IsIn texts row.1) prefix (λ row rest e' h. h) rows known.values;
   }
 
   abbrev Told : List Row → Type 0
@@ -159,8 +159,8 @@ module _ (texts : List (List ℕ)) (apart : (a b : List ℕ) → IsIn texts a �
           let digests = some_same _ _ (sym (name_of-rows kids p (text (tree_of kids))) ∙ e ∙ name_of-rows others q (text (tree_of others))) in
           told others s s' k k' p q (apart _ _ (k.nodes _ (text_in kids p)) (k'.nodes _ (text_in others q)) digests)
 
-  below_some : (rows : List Row) (front : List ℕ) → AllHaveFront front rows → rows ≢ [] → below front rows ≢ []
-  below_some rows front all some empty = some (sym (under-below front rows all) ∙ ap (under front) empty)
+  below_some : (rows : List Row) (prefix : List ℕ) → AllHavePrefix prefix rows → rows ≢ [] → below prefix rows ≢ []
+  below_some rows prefix all some empty = some (sym (under-below prefix rows all) ∙ ap (under prefix) empty)
 
   -- the node of each kind
   leaf_node : Row → Node
@@ -170,7 +170,7 @@ module _ (texts : List (List ℕ)) (apart : (a b : List ℕ) → IsIn texts a �
   branch_node rows = node.branch (option_map value_ref (ends_here rows)) (λ x. name_of (tree_of (below (x ∷ []) rows)) (text (tree_of (below (x ∷ []) rows))))
 
   extension_node : List ℕ → List Row → Node
-  extension_node front rows = node.extension front (sha256 (text (tree_of (below front rows))))
+  extension_node prefix rows = node.extension prefix (sha256 (text (tree_of (below prefix rows))))
 
   told_one : (row : Row) → Told (row ∷ [])
   unfolding node_of leaf_node branch_node extension_node
@@ -184,7 +184,7 @@ module _ (texts : List (List ℕ)) (apart : (a b : List ℕ) → IsIn texts a �
           let value = value_same row.1 other.1 k.values.0 there same.1 in
           ap (λ (r : Row). r ∷ []) (λ i. (same.0 i, value i)) ∙ sym p
       go (forks t) = absurd (compared_nodes (row ∷ []) ss (leaf row.0 row.1) _ (leaf_node row) (branch_node ss) s s' (tree_of-one row) t refl refl e)
-      go (shares front all t) = absurd (compared_nodes (row ∷ []) ss (leaf row.0 row.1) _ (leaf_node row) (extension_node front ss) s s' (tree_of-one row) t refl refl e)
+      go (shares prefix all t) = absurd (compared_nodes (row ∷ []) ss (leaf row.0 row.1) _ (leaf_node row) (extension_node prefix ss) s s' (tree_of-one row) t refl refl e)
 
   told_forks : (rs : List Row) → tree_of rs ≡ branch (ends_here rs) (λ x. tree_of (below (x ∷ []) rs)) → ((x : ℕ) → Told (below (x ∷ []) rs)) → Told rs
   unfolding node_of leaf_node branch_node extension_node
@@ -193,7 +193,7 @@ module _ (texts : List (List ℕ)) (apart : (a b : List ℕ) → IsIn texts a �
       go : Kind ss → rs ≡ ss
       go (none p) = absurd (some' p)
       go (one other p) = absurd (compared_nodes rs ss _ (leaf other.0 other.1) (branch_node rs) (leaf_node other) s s' is (ap tree_of p ∙ tree_of-one other) refl refl e)
-      go (shares front all t) = absurd (compared_nodes rs ss _ _ (branch_node rs) (extension_node front ss) s s' is t refl refl e)
+      go (shares prefix all t) = absurd (compared_nodes rs ss _ _ (branch_node rs) (extension_node prefix ss) s s' is t refl refl e)
       go (forks t) =
           let same = compared_nodes rs ss _ _ (branch_node rs) (branch_node ss) s s' is t refl refl e in
           let top = top_same (ends_here rs) (ends_here ss) (ends_here-known rs k.values) (ends_here-known ss k'.values) same.0 in
@@ -202,23 +202,23 @@ module _ (texts : List (List ℕ)) (apart : (a b : List ℕ) → IsIn texts a �
           ∙ ap₂ (λ (o : Option (List ℕ)) (rows : List Row). here o ++ rows) top (joined_below-agree (by_nibble rs) (by_nibble ss) 16 kids)
           ∙ rows_by_nibble ss s'.rising s'.small
 
-  told_shares : (rs : List Row) (front : List ℕ) → AllHaveFront front rs → tree_of rs ≡ extension front (tree_of (below front rs)) → Told (below front rs) → Told rs
+  told_shares : (rs : List Row) (prefix : List ℕ) → AllHavePrefix prefix rs → tree_of rs ≡ extension prefix (tree_of (below prefix rs)) → Told (below prefix rs) → Told rs
   unfolding node_of leaf_node branch_node extension_node
-  told_shares rs front all is further ss s s' k k' some some' e = go (kind_of ss)
+  told_shares rs prefix all is further ss s s' k k' some some' e = go (kind_of ss)
     where
       go : Kind ss → rs ≡ ss
       go (none p) = absurd (some' p)
-      go (one other p) = absurd (compared_nodes rs ss _ (leaf other.0 other.1) (extension_node front rs) (leaf_node other) s s' is (ap tree_of p ∙ tree_of-one other) refl refl e)
-      go (forks t) = absurd (compared_nodes rs ss _ _ (extension_node front rs) (branch_node ss) s s' is t refl refl e)
+      go (one other p) = absurd (compared_nodes rs ss _ (leaf other.0 other.1) (extension_node prefix rs) (leaf_node other) s s' is (ap tree_of p ∙ tree_of-one other) refl refl e)
+      go (forks t) = absurd (compared_nodes rs ss _ _ (extension_node prefix rs) (branch_node ss) s s' is t refl refl e)
       go (shares other all' t) =
-          let same = compared_nodes rs ss _ _ (extension_node front rs) (extension_node other ss) s s' is t refl refl e in
-          let known = known_extension rs front is k in
+          let same = compared_nodes rs ss _ _ (extension_node prefix rs) (extension_node other ss) s s' is t refl refl e in
+          let known = known_extension rs prefix is k in
           let known' = known_extension ss other t k' in
-          let there = below_some rs front all some in
+          let there = below_some rs prefix all some in
           let there' = below_some ss other all' some' in
-          let child = apart _ _ (known.nodes _ (text_in (below front rs) there)) (known'.nodes _ (text_in (below other ss) there')) same.1 in
-          let rows = further (below other ss) (sound-below front rs s) (sound-below other ss s') known known' there there' child in
-          sym (under-below front rs all) ∙ ap₂ under same.0 rows ∙ under-below other ss all'
+          let child = apart _ _ (known.nodes _ (text_in (below prefix rs) there)) (known'.nodes _ (text_in (below other ss) there')) same.1 in
+          let rows = further (below other ss) (sound-below prefix rs s) (sound-below other ss s') known known' there there' child in
+          sym (under-below prefix rs all) ∙ ap₂ under same.0 rows ∙ under-below other ss all'
 
   -- Rows with the same text are the same.
   pub rows_of_text : (rs ss : List Row) → Sound rs → Sound ss → Known rs → Known ss → rs ≢ [] → ss ≢ [] → text (tree_of rs) ≡ text (tree_of ss) → rs ≡ ss
@@ -226,7 +226,7 @@ module _ (texts : List (List ℕ)) (apart : (a b : List ℕ) → IsIn texts a �
     none = λ ss s s' k k' some some' e. absurd (some refl);
     one = told_one;
     forks = λ row next rows e further. told_forks (row ∷ next ∷ rows) (tree_of-forks row next rows e) further;
-    shares = λ row next rows x front e further. told_shares (row ∷ next ∷ rows) (x ∷ front) (subst (λ (f : List ℕ). AllHaveFront f (row ∷ next ∷ rows)) e (common_front-all row (next ∷ rows))) (tree_of-shares row next rows x front e) further;
+    shares = λ row next rows x prefix e further. told_shares (row ∷ next ∷ rows) (x ∷ prefix) (subst (λ (f : List ℕ). AllHavePrefix f (row ∷ next ∷ rows)) e (common_prefix-all row (next ∷ rows))) (tree_of-shares row next rows x prefix e) further;
   })
 
 -- ---- of two states

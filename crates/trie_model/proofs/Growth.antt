@@ -1,4 +1,4 @@
--- Rows that share a front, and rows that fork: what their tries are, made from those of their parts.
+-- Rows that share a prefix, and rows that fork: what their tries are, made from those of their parts.
 use Rattle.std.proofs.Common.{◌≡◌, ◌≢◌, ℕ, zero, suc, ◌<◌, ◌≤◌, ◌==◌, true, false, if◌then◌else◌, List, [], ◌∷◌, ◌++◌, Option, None, Some, refl, sym, ◌∙◌, ap, ap₂, subst, inl, inr, ◌⊎◌, arith, append-nil, nat_cmp, Less, Equal, Greater}
 use Rattle.std.specs.List.{AllByRecursion}
 use Rattle.std.specs.Ordering.{ordering_then}
@@ -9,64 +9,64 @@ use mathlib.Core.Path.{fun_ext}
 use Rattle.byte_model.specs.Below.{joined_below}
 use Rattle.byte_model.proofs.Digits.{nat_cmp-greater, nat_cmp-itself}
 use Rattle.trie_model.specs.State.{Row}
-use Rattle.trie_model.specs.Tree.{Tree, nothing, leaf, branch, extension, rest_behind, below, ends_here, common, common_front, tree_of}
-use Rattle.trie_model.proofs.Rests.{same_nibble, under, below-append, below-under, below-rows_append, under-below, AllHaveFront}
+use Rattle.trie_model.specs.Tree.{Tree, nothing, leaf, branch, extension, rest_behind, below, ends_here, common, common_prefix, tree_of}
+use Rattle.trie_model.proofs.Rests.{same_nibble, under, below-append, below-under, below-rows_append, under-below, AllHavePrefix}
 use Rattle.trie_model.proofs.Trees.{tree_of-nil, tree_of-one, tree_of-forks, tree_of-shares}
 use Rattle.trie_model.proofs.Order.{Before, RisingRows}
 use Rattle.trie_model.proofs.Pairs.{here}
 
--- ---- a front before all paths
+-- ---- a prefix before all paths
 
--- a tree with a front put before all its paths: a leaf's or an extension's path grows, and a branch becomes the child of an extension
+-- a tree with a prefix put before all its paths: a leaf's or an extension's path grows, and a branch becomes the child of an extension
 unfoldable pub grown : List ℕ → Tree → Tree
 grown [] tree = tree
-grown (x ∷ front) nothing = nothing
-grown (x ∷ front) (leaf path value) = leaf (x ∷ front ++ path) value
-grown (x ∷ front) (branch value kids) = extension (x ∷ front) (branch value kids)
-grown (x ∷ front) (extension path child) = extension (x ∷ front ++ path) child
+grown (x ∷ prefix) nothing = nothing
+grown (x ∷ prefix) (leaf path value) = leaf (x ∷ prefix ++ path) value
+grown (x ∷ prefix) (branch value kids) = extension (x ∷ prefix) (branch value kids)
+grown (x ∷ prefix) (extension path child) = extension (x ∷ prefix ++ path) child
 
 pub under-nil : (rows : List Row) → under [] rows ≡ rows
 under-nil [] = refl
 under-nil (row ∷ rows) = ap (λ (rs : List Row). row ∷ rs) (under-nil rows)
 
-pub common-front : (front p q : List ℕ) → common (front ++ p) (front ++ q) ≡ front ++ common p q
+pub common-prefix : (prefix p q : List ℕ) → common (prefix ++ p) (prefix ++ q) ≡ prefix ++ common p q
 unfolding common
-common-front [] p q = refl
-common-front (x ∷ front) p q = rw (same_nibble x) (ap (λ (r : List ℕ). x ∷ r) (common-front front p q))
+common-prefix [] p q = refl
+common-prefix (x ∷ prefix) p q = rw (same_nibble x) (ap (λ (r : List ℕ). x ∷ r) (common-prefix prefix p q))
 
-pub common_front-under : (front : List ℕ) (row : Row) (rows : List Row) → common_front (front ++ row.0, row.1) (under front rows) ≡ front ++ common_front row rows
-unfolding common_front
-common_front-under front row [] = refl
-common_front-under front row (next ∷ rows) = ap (common (front ++ row.0)) (common_front-under front next rows) ∙ common-front front row.0 (common_front next rows)
+pub common_prefix-under : (prefix : List ℕ) (row : Row) (rows : List Row) → common_prefix (prefix ++ row.0, row.1) (under prefix rows) ≡ prefix ++ common_prefix row rows
+unfolding common_prefix
+common_prefix-under prefix row [] = refl
+common_prefix-under prefix row (next ∷ rows) = ap (common (prefix ++ row.0)) (common_prefix-under prefix next rows) ∙ common-prefix prefix row.0 (common_prefix next rows)
 
--- the trie of rows with a front put before each
-pub tree_of-under : (front : List ℕ) (rows : List Row) → tree_of (under front rows) ≡ grown front (tree_of rows)
+-- the trie of rows with a prefix put before each
+pub tree_of-under : (prefix : List ℕ) (rows : List Row) → tree_of (under prefix rows) ≡ grown prefix (tree_of rows)
 unfolding grown
 tree_of-under [] rows = ap tree_of (under-nil rows)
-tree_of-under (x ∷ front) [] = tree_of-nil ∙ sym (ap (grown (x ∷ front)) tree_of-nil)
-tree_of-under (x ∷ front) (row ∷ []) = tree_of-one (x ∷ front ++ row.0, row.1) ∙ sym (ap (grown (x ∷ front)) (tree_of-one row))
-tree_of-under (x ∷ front) (row ∷ next ∷ rows) = go (common_front row (next ∷ rows)) refl
+tree_of-under (x ∷ prefix) [] = tree_of-nil ∙ sym (ap (grown (x ∷ prefix)) tree_of-nil)
+tree_of-under (x ∷ prefix) (row ∷ []) = tree_of-one (x ∷ prefix ++ row.0, row.1) ∙ sym (ap (grown (x ∷ prefix)) (tree_of-one row))
+tree_of-under (x ∷ prefix) (row ∷ next ∷ rows) = go (common_prefix row (next ∷ rows)) refl
   where
     rs : List Row
     rs = row ∷ next ∷ rows
 
-    raised : common_front (x ∷ front ++ row.0, row.1) (under (x ∷ front) (next ∷ rows)) ≡ x ∷ front ++ common_front row (next ∷ rows)
-    raised = common_front-under (x ∷ front) row (next ∷ rows)
+    raised : common_prefix (x ∷ prefix ++ row.0, row.1) (under (x ∷ prefix) (next ∷ rows)) ≡ x ∷ prefix ++ common_prefix row (next ∷ rows)
+    raised = common_prefix-under (x ∷ prefix) row (next ∷ rows)
 
-    go : (shared : List ℕ) → common_front row (next ∷ rows) ≡ shared → tree_of (under (x ∷ front) (row ∷ next ∷ rows)) ≡ grown (x ∷ front) (tree_of (row ∷ next ∷ rows))
+    go : (shared : List ℕ) → common_prefix row (next ∷ rows) ≡ shared → tree_of (under (x ∷ prefix) (row ∷ next ∷ rows)) ≡ grown (x ∷ prefix) (tree_of (row ∷ next ∷ rows))
     go [] e =
-        tree_of-shares (x ∷ front ++ row.0, row.1) (x ∷ front ++ next.0, next.1) (under (x ∷ front) rows) x front (raised ∙ ap (λ (r : List ℕ). x ∷ front ++ r) e ∙ append-nil (x ∷ front))
-        ∙ ap (λ (r : List Row). extension (x ∷ front) (tree_of r)) (below-under (x ∷ front) rs)
-        ∙ ap (extension (x ∷ front)) (tree_of-forks row next rows e)
-        ∙ sym (ap (grown (x ∷ front)) (tree_of-forks row next rows e))
+        tree_of-shares (x ∷ prefix ++ row.0, row.1) (x ∷ prefix ++ next.0, next.1) (under (x ∷ prefix) rows) x prefix (raised ∙ ap (λ (r : List ℕ). x ∷ prefix ++ r) e ∙ append-nil (x ∷ prefix))
+        ∙ ap (λ (r : List Row). extension (x ∷ prefix) (tree_of r)) (below-under (x ∷ prefix) rs)
+        ∙ ap (extension (x ∷ prefix)) (tree_of-forks row next rows e)
+        ∙ sym (ap (grown (x ∷ prefix)) (tree_of-forks row next rows e))
     go (y ∷ more) e =
-        tree_of-shares (x ∷ front ++ row.0, row.1) (x ∷ front ++ next.0, next.1) (under (x ∷ front) rows) x (front ++ y ∷ more) (raised ∙ ap (λ (r : List ℕ). x ∷ front ++ r) e)
-        ∙ ap (λ (r : List Row). extension (x ∷ front ++ y ∷ more) (tree_of r)) (below-append (x ∷ front) (y ∷ more) (under (x ∷ front) rs) ∙ ap (below (y ∷ more)) (below-under (x ∷ front) rs))
-        ∙ sym (ap (grown (x ∷ front)) (tree_of-shares row next rows y more e))
+        tree_of-shares (x ∷ prefix ++ row.0, row.1) (x ∷ prefix ++ next.0, next.1) (under (x ∷ prefix) rows) x (prefix ++ y ∷ more) (raised ∙ ap (λ (r : List ℕ). x ∷ prefix ++ r) e)
+        ∙ ap (λ (r : List Row). extension (x ∷ prefix ++ y ∷ more) (tree_of r)) (below-append (x ∷ prefix) (y ∷ more) (under (x ∷ prefix) rs) ∙ ap (below (y ∷ more)) (below-under (x ∷ prefix) rs))
+        ∙ sym (ap (grown (x ∷ prefix)) (tree_of-shares row next rows y more e))
 
--- The trie of rows that all have a front is that of the rows below it, grown by it.
-pub tree_of-front : (front : List ℕ) (rows : List Row) → AllHaveFront front rows → tree_of rows ≡ grown front (tree_of (below front rows))
-tree_of-front front rows h = ap tree_of (sym (under-below front rows h)) ∙ tree_of-under front (below front rows)
+-- The trie of rows that all have a prefix is that of the rows below it, grown by it.
+pub tree_of-prefix : (prefix : List ℕ) (rows : List Row) → AllHavePrefix prefix rows → tree_of rows ≡ grown prefix (tree_of (below prefix rows))
+tree_of-prefix prefix rows h = ap tree_of (sym (under-below prefix rows h)) ∙ tree_of-under prefix (below prefix rows)
 
 -- ---- rows by nibbles
 
@@ -134,7 +134,7 @@ module _ (kids : ℕ → List Row) where
   ends_here-here_spread None = ends_here-spread 16
   ends_here-here_spread (Some value) = refl
 
--- ---- the common front of rising rows
+-- ---- the common prefix of rising rows
 
 -- the last of some rows
 abbrev pub last_row : Row → List Row → Row
@@ -170,7 +170,7 @@ first_not_after x y p q h =
 rest_not_after : (x y : ℕ) (p q : List ℕ) → x ≡ y → NotAfter (x ∷ p) (y ∷ q) → NotAfter p q
 rest_not_after x y p q same h e = h (ap (λ (z : ℕ). ordering_then (nat_cmp x z) (slice_cmp nat_cmp p q)) (sym same) ∙ ap (λ o. ordering_then o (slice_cmp nat_cmp p q)) (nat_cmp-itself x) ∙ e)
 
--- a path between two others has the front that they share
+-- a path between two others has the prefix that they share
 pub common-between : (p q r : List ℕ) → NotAfter p q → NotAfter q r → common p (common q r) ≡ common p r
 unfolding common
 common-between [] q r h k = refl
@@ -212,29 +212,29 @@ not_after_last : (row : Row) (rows : List Row) → RisingRows (row ∷ rows) →
 not_after_last row [] h = not_after_itself row.0
 not_after_last row (next ∷ rows) h = not_after_before row.0 (last_row next rows).0 (all_last (λ later. Before row.0 later.0) next rows h.0)
 
--- The common front of rising rows is that of the first and the last.
-pub common_front-rising : (row : Row) (rows : List Row) → RisingRows (row ∷ rows) → common_front row rows ≡ common row.0 (last_row row rows).0
-unfolding common_front
-common_front-rising row [] h = sym (common-itself row.0)
-common_front-rising row (next ∷ rows) h =
-    ap (common row.0) (common_front-rising next rows h.1)
+-- The common prefix of rising rows is that of the first and the last.
+pub common_prefix-rising : (row : Row) (rows : List Row) → RisingRows (row ∷ rows) → common_prefix row rows ≡ common row.0 (last_row row rows).0
+unfolding common_prefix
+common_prefix-rising row [] h = sym (common-itself row.0)
+common_prefix-rising row (next ∷ rows) h =
+    ap (common row.0) (common_prefix-rising next rows h.1)
     ∙ common-between row.0 next.0 (last_row next rows).0 (not_after_before row.0 next.0 h.0.0) (not_after_last next rows h.1)
 
 -- ---- rows that fork
 
-pub common_front-ends : (row : Row) (rows : List Row) → row.0 ≡ [] → common_front row rows ≡ []
-unfolding common_front common
-common_front-ends row [] e = e
-common_front-ends row (next ∷ rows) e = ap (λ (p : List ℕ). common p (common_front next rows)) e
+pub common_prefix-ends : (row : Row) (rows : List Row) → row.0 ≡ [] → common_prefix row rows ≡ []
+unfolding common_prefix common
+common_prefix-ends row [] e = e
+common_prefix-ends row (next ∷ rows) e = ap (λ (p : List ℕ). common p (common_prefix next rows)) e
 
-pub common_front-differs : (row : Row) (rows : List Row) (x y : ℕ) (p q : List ℕ) → RisingRows (row ∷ rows) → row.0 ≡ x ∷ p → (last_row row rows).0 ≡ y ∷ q → x ≢ y → common_front row rows ≡ []
+pub common_prefix-differs : (row : Row) (rows : List Row) (x y : ℕ) (p q : List ℕ) → RisingRows (row ∷ rows) → row.0 ≡ x ∷ p → (last_row row rows).0 ≡ y ∷ q → x ≢ y → common_prefix row rows ≡ []
 unfolding common
-common_front-differs row rows x y p q rising first last apart =
+common_prefix-differs row rows x y p q rising first last apart =
     let test : (x == y) ≡ false = grind (arith, nat_tests) in
-    common_front-rising row rows rising ∙ ap₂ common first last ∙ ap (λ b. if b then x ∷ common p q else []) test
+    common_prefix-rising row rows rising ∙ ap₂ common first last ∙ ap (λ b. if b then x ∷ common p q else []) test
 
 -- The trie of rows that fork, from those of their nibbles.
-pub tree_of-spread : (kids : ℕ → List Row) (value : Option (List ℕ)) (row next : Row) (rows : List Row) → ((x : ℕ) → 16 ≤ x → kids x ≡ []) → here value ++ spread kids 16 ≡ row ∷ next ∷ rows → common_front row (next ∷ rows) ≡ [] → tree_of (here value ++ spread kids 16) ≡ branch value (λ x. tree_of (kids x))
+pub tree_of-spread : (kids : ℕ → List Row) (value : Option (List ℕ)) (row next : Row) (rows : List Row) → ((x : ℕ) → 16 ≤ x → kids x ≡ []) → here value ++ spread kids 16 ≡ row ∷ next ∷ rows → common_prefix row (next ∷ rows) ≡ [] → tree_of (here value ++ spread kids 16) ≡ branch value (λ x. tree_of (kids x))
 tree_of-spread kids value row next rows none same forks =
     ap tree_of same
     ∙ tree_of-forks row next rows forks

@@ -14,7 +14,7 @@ use Rattle.trie_model.specs.Tree.{rest_behind, below, tree_of}
 use Rattle.trie_model.specs.Texts.{behind, places}
 use Rattle.trie_model.specs.Root.{places_of}
 use Rattle.trie_model.proofs.Members.{IsIn, in_map_from, in_joined_below_from, all_at, all_of, in-append_cases}
-use Rattle.trie_model.proofs.Rests.{front_and_rest}
+use Rattle.trie_model.proofs.Rests.{prefix_and_rest}
 use Rattle.trie_model.proofs.Trees.{tree_of-nil, tree_of-one, tree_of-forks, tree_of-shares, by_cases}
 use Rattle.trie_model.proofs.Costs.{subtree_at-root}
 use Rattle.trie_model.proofs.Worked.{Pair, rows_of_pairs}
@@ -26,9 +26,9 @@ Before p q = slice_cmp nat_cmp p q ≡ Less
 abbrev pub Rising : List (List ℕ) → Type 0
 Rising paths = IsStrictlySortedBy (slice_cmp nat_cmp) paths
 
-pub slice_cmp-front : (front p q : List ℕ) → slice_cmp nat_cmp (front ++ p) (front ++ q) ≡ slice_cmp nat_cmp p q
-slice_cmp-front [] p q = refl
-slice_cmp-front (x ∷ front) p q = ap (λ o. ordering_then o (slice_cmp nat_cmp (front ++ p) (front ++ q))) (nat_cmp-itself x) ∙ slice_cmp-front front p q
+pub slice_cmp-prefix : (prefix p q : List ℕ) → slice_cmp nat_cmp (prefix ++ p) (prefix ++ q) ≡ slice_cmp nat_cmp p q
+slice_cmp-prefix [] p q = refl
+slice_cmp-prefix (x ∷ prefix) p q = ap (λ o. ordering_then o (slice_cmp nat_cmp (prefix ++ p) (prefix ++ q))) (nat_cmp-itself x) ∙ slice_cmp-prefix prefix p q
 
 pub before_by_first : (x y : ℕ) (p q : List ℕ) → x < y → Before (x ∷ p) (y ∷ q)
 before_by_first x y p q h = ap (λ o. ordering_then o (slice_cmp nat_cmp p q)) (nat_cmp-less x y h)
@@ -44,14 +44,14 @@ rising-append (p ∷ ps) qs h k across = (
   rising-append ps qs h.1 k (λ r q i j. across r q (inr i) j),
 )
 
-all_behind : (front p : List ℕ) (qs : List (List ℕ)) → AllByRecursion (λ q. Before p q) qs → AllByRecursion (λ q. Before (front ++ p) q) (behind front qs)
-all_behind front p [] h = tt
-all_behind front p (q ∷ qs) h = (slice_cmp-front front p q ∙ h.0, all_behind front p qs h.1)
+all_behind : (prefix p : List ℕ) (qs : List (List ℕ)) → AllByRecursion (λ q. Before p q) qs → AllByRecursion (λ q. Before (prefix ++ p) q) (behind prefix qs)
+all_behind prefix p [] h = tt
+all_behind prefix p (q ∷ qs) h = (slice_cmp-prefix prefix p q ∙ h.0, all_behind prefix p qs h.1)
 
-pub rising-behind : (front : List ℕ) (ps : List (List ℕ)) → Rising ps → Rising (behind front ps)
+pub rising-behind : (prefix : List ℕ) (ps : List (List ℕ)) → Rising ps → Rising (behind prefix ps)
 unfolding IsStrictlySortedBy
-rising-behind front [] h = tt
-rising-behind front (p ∷ ps) h = (all_behind front p ps h.0, rising-behind front ps h.1)
+rising-behind prefix [] h = tt
+rising-behind prefix (p ∷ ps) h = (all_behind prefix p ps h.0, rising-behind prefix ps h.1)
 
 rising-joined_below : (ps : ℕ → List (List ℕ)) (n : ℕ) → ((x : ℕ) → Rising (ps x)) → Rising (joined_below (λ x. behind (x ∷ []) (ps x)) n)
 unfolding joined_below IsStrictlySortedBy
@@ -65,9 +65,9 @@ rising-joined_below ps (suc n) each =
     subst (λ r. Before p r) second.2 (subst (λ r. Before r (n ∷ second.0)) first.2 apart))
 
 -- the empty path stands before each path behind a nibble
-first_of_all : (x : ℕ) (front : List ℕ) (ps : List (List ℕ)) → AllByRecursion (λ q. Before [] q) (behind (x ∷ front) ps)
-first_of_all x front [] = tt
-first_of_all x front (p ∷ ps) = (refl, first_of_all x front ps)
+first_of_all : (x : ℕ) (prefix : List ℕ) (ps : List (List ℕ)) → AllByRecursion (λ q. Before [] q) (behind (x ∷ prefix) ps)
+first_of_all x prefix [] = tt
+first_of_all x prefix (p ∷ ps) = (refl, first_of_all x prefix ps)
 
 first_of_joined : (ps : ℕ → List (List ℕ)) (n : ℕ) → AllByRecursion (λ q. Before [] q) (joined_below (λ x. behind (x ∷ []) (ps x)) n)
 first_of_joined ps n = all_of (λ q. Before [] q) (joined_below (λ x. behind (x ∷ []) (ps x)) n) (λ q i.
@@ -82,9 +82,9 @@ rising-places = by_cases (λ rows. Rising (places (tree_of rows))) (record {
   forks = λ row next rows e further.
       let kids : ℕ → List (List ℕ) = λ x. places (tree_of (below (x ∷ []) (row ∷ next ∷ rows))) in
       subst (λ t. Rising (places t)) (sym (tree_of-forks row next rows e)) (first_of_joined kids 16, rising-joined_below kids 16 further);
-  shares = λ row next rows x front e further.
-      let child : List (List ℕ) = places (tree_of (below (x ∷ front) (row ∷ next ∷ rows))) in
-      subst (λ t. Rising (places t)) (sym (tree_of-shares row next rows x front e)) (first_of_all x front child, rising-behind (x ∷ front) child further);
+  shares = λ row next rows x prefix e further.
+      let child : List (List ℕ) = places (tree_of (below (x ∷ prefix) (row ∷ next ∷ rows))) in
+      subst (λ t. Rising (places t)) (sym (tree_of-shares row next rows x prefix e)) (first_of_all x prefix child, rising-behind (x ∷ prefix) child further);
 })
 
 pub rising-places_of : (state : State) → Rising (places_of state)
@@ -123,26 +123,26 @@ unfolding rows_of
 rising-rows_of state = rising_pairs (entries state) (entries_sorted state)
 
 -- a property of rows that passes on to what is left of their paths
-pub all-below : (P Q : Row → Type 0) (front : List ℕ) → ((row : Row) (rest : List ℕ) → rest_behind front row.0 ≡ Some rest → P row → Q (rest, row.1)) → (rows : List Row) → AllByRecursion P rows → AllByRecursion Q (below front rows)
+pub all-below : (P Q : Row → Type 0) (prefix : List ℕ) → ((row : Row) (rest : List ℕ) → rest_behind prefix row.0 ≡ Some rest → P row → Q (rest, row.1)) → (rows : List Row) → AllByRecursion P rows → AllByRecursion Q (below prefix rows)
 unfolding below
-all-below P Q front step [] h = tt
-all-below P Q front step (row ∷ rows) h =
-    let further = all-below P Q front step rows h.1 in
-    elim (rest_behind front row.0) as (λ r. rest_behind front row.0 ≡ r → AllByRecursion Q (cons_option (option_map (λ rest. (rest, row.1)) r) (below front rows))) [
+all-below P Q prefix step [] h = tt
+all-below P Q prefix step (row ∷ rows) h =
+    let further = all-below P Q prefix step rows h.1 in
+    elim (rest_behind prefix row.0) as (λ r. rest_behind prefix row.0 ≡ r → AllByRecursion Q (cons_option (option_map (λ rest. (rest, row.1)) r) (below prefix rows))) [
       | None ↦ λ e. further
       | Some rest ↦ λ e. (step row rest e h.0, further)
     ] refl
 
-pub rising-below : (front : List ℕ) (rows : List Row) → RisingRows rows → RisingRows (below front rows)
+pub rising-below : (prefix : List ℕ) (rows : List Row) → RisingRows rows → RisingRows (below prefix rows)
 unfolding below
-rising-below front [] h = tt
-rising-below front (row ∷ rows) h =
-    let further = rising-below front rows h.1 in
-    elim (rest_behind front row.0) as (λ r. rest_behind front row.0 ≡ r → RisingRows (cons_option (option_map (λ rest. (rest, row.1)) r) (below front rows))) [
+rising-below prefix [] h = tt
+rising-below prefix (row ∷ rows) h =
+    let further = rising-below prefix rows h.1 in
+    elim (rest_behind prefix row.0) as (λ r. rest_behind prefix row.0 ≡ r → RisingRows (cons_option (option_map (λ rest. (rest, row.1)) r) (below prefix rows))) [
       | None ↦ λ e. further
       | Some rest ↦ λ e. (
-        all-below (λ later. Before row.0 later.0) (λ later. Before rest later.0) front (λ later rest' e' b.
-            sym (slice_cmp-front front rest rest') ∙ ap₂ (slice_cmp nat_cmp) (sym (front_and_rest front row.0 rest e)) (sym (front_and_rest front later.0 rest' e')) ∙ b) rows h.0,
+        all-below (λ later. Before row.0 later.0) (λ later. Before rest later.0) prefix (λ later rest' e' b.
+            sym (slice_cmp-prefix prefix rest rest') ∙ ap₂ (slice_cmp nat_cmp) (sym (prefix_and_rest prefix row.0 rest e)) (sym (prefix_and_rest prefix later.0 rest' e')) ∙ b) rows h.0,
         further,
       )
     ] refl

@@ -17,14 +17,14 @@ use Rattle.trie_model.specs.Texts.{behind, places}
 use Rattle.trie_model.specs.Root.{subtree_at, places_of}
 use Rattle.trie_model.specs.Laws.{held_by, held_at}
 use Rattle.trie_model.proofs.Joined.{joined_below-agree}
-use Rattle.trie_model.proofs.Rests.{below-nil, below-append, below-none, under, under-below, AllHaveFront, common_front-all, same_nibble, front_and_rest}
+use Rattle.trie_model.proofs.Rests.{below-nil, below-append, below-none, under, under-below, AllHavePrefix, common_prefix-all, same_nibble, prefix_and_rest}
 use Rattle.trie_model.proofs.Trees.{tree_of-nil, tree_of-one, tree_of-forks, tree_of-shares, by_cases}
 use Rattle.trie_model.proofs.Costs.{subtree_at-root}
 use Rattle.trie_model.proofs.Order.{Before, RisingRows, rising-below, rising-rows_of, all-below}
 
--- a row with a front put before its path
+-- a row with a prefix put before its path
 abbrev pub prefixed : List ℕ → Row → Row
-prefixed front row = (front ++ row.0, row.1)
+prefixed prefix row = (prefix ++ row.0, row.1)
 
 -- the row that stands here, as a list
 abbrev pub here : Option (List ℕ) → List Row
@@ -44,26 +44,26 @@ held (extension path child) = under path (held child)
 abbrev pub held_below : List Row → List ℕ → Option Row
 held_below rows place = option_map (prefixed place) (held_by (tree_of (below place rows)))
 
-under-append : (front : List ℕ) (rows others : List Row) → under front (rows ++ others) ≡ under front rows ++ under front others
-under-append front [] others = refl
-under-append front (row ∷ rows) others = ap (λ (rs : List Row). (front ++ row.0, row.1) ∷ rs) (under-append front rows others)
+under-append : (prefix : List ℕ) (rows others : List Row) → under prefix (rows ++ others) ≡ under prefix rows ++ under prefix others
+under-append prefix [] others = refl
+under-append prefix (row ∷ rows) others = ap (λ (rs : List Row). (prefix ++ row.0, row.1) ∷ rs) (under-append prefix rows others)
 
-held_below-append : (front place : List ℕ) (rows : List Row) → held_below rows (front ++ place) ≡ option_map (prefixed front) (held_below (below front rows) place)
-held_below-append front place rows =
-    ap (λ rs. option_map (prefixed (front ++ place)) (held_by (tree_of rs))) (below-append front place rows)
-    ∙ go (held_by (tree_of (below place (below front rows))))
+held_below-append : (prefix place : List ℕ) (rows : List Row) → held_below rows (prefix ++ place) ≡ option_map (prefixed prefix) (held_below (below prefix rows) place)
+held_below-append prefix place rows =
+    ap (λ rs. option_map (prefixed (prefix ++ place)) (held_by (tree_of rs))) (below-append prefix place rows)
+    ∙ go (held_by (tree_of (below place (below prefix rows))))
   where
-    go : (o : Option Row) → option_map (prefixed (front ++ place)) o ≡ option_map (prefixed front) (option_map (prefixed place) o)
+    go : (o : Option Row) → option_map (prefixed (prefix ++ place)) o ≡ option_map (prefixed prefix) (option_map (prefixed place) o)
     go None = refl
-    go (Some row) = ap (λ (path : List ℕ). let r : Row = (path, row.1) in Some r) (append_assoc front place row.0)
+    go (Some row) = ap (λ (path : List ℕ). let r : Row = (path, row.1) in Some r) (append_assoc prefix place row.0)
 
-filter_map-behind : (front : List ℕ) (rows : List Row) (paths : List (List ℕ)) → filter_map (held_below rows) (behind front paths) ≡ under front (filter_map (held_below (below front rows)) paths)
-filter_map-behind front rows [] = refl
-filter_map-behind front rows (path ∷ paths) =
-    ap₂ (λ (o : Option Row) (rs : List Row). cons_option o rs) (held_below-append front path rows) (filter_map-behind front rows paths)
-    ∙ go (held_below (below front rows) path)
+filter_map-behind : (prefix : List ℕ) (rows : List Row) (paths : List (List ℕ)) → filter_map (held_below rows) (behind prefix paths) ≡ under prefix (filter_map (held_below (below prefix rows)) paths)
+filter_map-behind prefix rows [] = refl
+filter_map-behind prefix rows (path ∷ paths) =
+    ap₂ (λ (o : Option Row) (rs : List Row). cons_option o rs) (held_below-append prefix path rows) (filter_map-behind prefix rows paths)
+    ∙ go (held_below (below prefix rows) path)
   where
-    go : (o : Option Row) → cons_option (option_map (prefixed front) o) (under front (filter_map (held_below (below front rows)) paths)) ≡ under front (cons_option o (filter_map (held_below (below front rows)) paths))
+    go : (o : Option Row) → cons_option (option_map (prefixed prefix) o) (under prefix (filter_map (held_below (below prefix rows)) paths)) ≡ under prefix (cons_option o (filter_map (held_below (below prefix rows)) paths))
     go None = refl
     go (Some row) = refl
 
@@ -96,13 +96,13 @@ branch_holds rows value e further =
     go None rs = refl
     go (Some w) rs = refl
 
-extension_holds : (rows : List Row) (front : List ℕ) → tree_of rows ≡ extension front (tree_of (below front rows)) → Holds (below front rows) → Holds rows
+extension_holds : (rows : List Row) (prefix : List ℕ) → tree_of rows ≡ extension prefix (tree_of (below prefix rows)) → Holds (below prefix rows) → Holds rows
 unfolding places held held_by
-extension_holds rows front e further =
-    let child = tree_of (below front rows) in
+extension_holds rows prefix e further =
+    let child = tree_of (below prefix rows) in
     subst (λ t. filter_map (held_below rows) (places t) ≡ held t) (sym e)
-    (ap₂ (λ (o : Option Row) (rs : List Row). cons_option o rs) (top_held rows (extension front child) e)
-    (filter_map-behind front rows (places child) ∙ ap (under front) further))
+    (ap₂ (λ (o : Option Row) (rs : List Row). cons_option o rs) (top_held rows (extension prefix child) e)
+    (filter_map-behind prefix rows (places child) ∙ ap (under prefix) further))
 
 pub filter_map-places : (rows : List Row) → filter_map (held_below rows) (places (tree_of rows)) ≡ held (tree_of rows)
 unfolding places held held_by
@@ -110,7 +110,7 @@ filter_map-places = by_cases Holds (record {
   none = subst (λ t. filter_map (held_below []) (places t) ≡ held t) (sym tree_of-nil) refl;
   one = λ row. subst (λ t. filter_map (held_below (row ∷ [])) (places t) ≡ held t) (sym (tree_of-one row)) (ap (λ (o : Option Row). cons_option o []) (top_held (row ∷ []) (leaf row.0 row.1) (tree_of-one row)));
   forks = λ row next rows e further. branch_holds (row ∷ next ∷ rows) _ (tree_of-forks row next rows e) further;
-  shares = λ row next rows x front e further. extension_holds (row ∷ next ∷ rows) (x ∷ front) (tree_of-shares row next rows x front e) further;
+  shares = λ row next rows x prefix e further. extension_holds (row ∷ next ∷ rows) (x ∷ prefix) (tree_of-shares row next rows x prefix e) further;
 })
 
 -- ---- rising rows by their first nibbles
@@ -157,7 +157,7 @@ unfolding joined_below
 joined_none f zero none = refl
 joined_none f (suc n) none = ap₂ (λ (a b : List Row). a ++ b) (joined_none f n (λ x h. none x (omega arith))) (none n (omega arith))
 
--- the lists of a bound's numbers, where one more stands in front of the first that is not empty
+-- the lists of a bound's numbers, where one more stands in prefix of the first that is not empty
 joined_below-first : (f g : ℕ → List Row) (row : Row) (y n : ℕ) → y < n → ((x : ℕ) → x < y → f x ≡ []) → ((x : ℕ) → x ≢ y → g x ≡ f x) → g y ≡ row ∷ f y → joined_below g n ≡ row ∷ joined_below f n
 unfolding joined_below
 joined_below-first f g row y zero h none same first = absurd (omega arith)
@@ -217,12 +217,12 @@ rows_by_nibble ((y ∷ p, value) ∷ rows) rising small =
 
 -- ---- a trie holds its rows
 
-AreNibbles-rest : (front rest : List ℕ) → AreNibbles (front ++ rest) → AreNibbles rest
+AreNibbles-rest : (prefix rest : List ℕ) → AreNibbles (prefix ++ rest) → AreNibbles rest
 AreNibbles-rest [] rest h = h
-AreNibbles-rest (x ∷ front) rest h = AreNibbles-rest front rest h.1
+AreNibbles-rest (x ∷ prefix) rest h = AreNibbles-rest prefix rest h.1
 
-pub small-below : (front : List ℕ) (rows : List Row) → Small rows → Small (below front rows)
-small-below front rows small = all-below (λ row. AreNibbles row.0) (λ row. AreNibbles row.0) front (λ row rest e h. AreNibbles-rest front rest (subst AreNibbles (front_and_rest front row.0 rest e) h)) rows small
+pub small-below : (prefix : List ℕ) (rows : List Row) → Small rows → Small (below prefix rows)
+small-below prefix rows small = all-below (λ row. AreNibbles row.0) (λ row. AreNibbles row.0) prefix (λ row rest e h. AreNibbles-rest prefix rest (subst AreNibbles (prefix_and_rest prefix row.0 rest e) h)) rows small
 
 pub held-tree_of : (rows : List Row) → RisingRows rows → Small rows → held (tree_of rows) ≡ rows
 unfolding held
@@ -234,12 +234,12 @@ held-tree_of = by_cases (λ rows. RisingRows rows → Small rows → held (tree_
       ap held (tree_of-forks row next rows e)
       ∙ ap (λ (held_rows : List Row). here (ends_here rs) ++ held_rows) (joined_below-agree _ (by_nibble rs) 16 (λ x h. ap (under (x ∷ [])) (further x (rising-below (x ∷ []) rs rising) (small-below (x ∷ []) rs small))))
       ∙ rows_by_nibble rs rising small;
-  shares = λ row next rows x front e further rising small.
+  shares = λ row next rows x prefix e further rising small.
       let rs : List Row = row ∷ next ∷ rows in
-      let all = subst (λ (f : List ℕ). AllHaveFront f rs) e (common_front-all row (next ∷ rows)) in
-      ap held (tree_of-shares row next rows x front e)
-      ∙ ap (under (x ∷ front)) (further (rising-below (x ∷ front) rs rising) (small-below (x ∷ front) rs small))
-      ∙ under-below (x ∷ front) rs all;
+      let all = subst (λ (f : List ℕ). AllHavePrefix f rs) e (common_prefix-all row (next ∷ rows)) in
+      ap held (tree_of-shares row next rows x prefix e)
+      ∙ ap (under (x ∷ prefix)) (further (rising-below (x ∷ prefix) rs rising) (small-below (x ∷ prefix) rs small))
+      ∙ under-below (x ∷ prefix) rs all;
 })
 
 -- ---- of a state

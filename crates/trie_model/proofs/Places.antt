@@ -19,10 +19,10 @@ gathered F (extension path child) = F (extension path child) ∷ gathered F chil
 abbrev pub at_place : {X : Type 0} → (Tree → X) → List Row → List ℕ → X
 at_place F rows place = F (tree_of (below place rows))
 
--- behind a front, it is that of the rows below the front
-pub map-behind : {X : Type 0} (F : Tree → X) (rows : List Row) (front : List ℕ) (paths : List (List ℕ)) → map (at_place F rows) (behind front paths) ≡ map (at_place F (below front rows)) paths
-map-behind F rows front [] = refl
-map-behind {X} F rows front (path ∷ paths) = ap₂ (λ (a : X) (others : List X). a ∷ others) (ap (λ rs. F (tree_of rs)) (below-append front path rows)) (map-behind F rows front paths)
+-- behind a prefix, it is that of the rows below the prefix
+pub map-behind : {X : Type 0} (F : Tree → X) (rows : List Row) (prefix : List ℕ) (paths : List (List ℕ)) → map (at_place F rows) (behind prefix paths) ≡ map (at_place F (below prefix rows)) paths
+map-behind F rows prefix [] = refl
+map-behind {X} F rows prefix (path ∷ paths) = ap₂ (λ (a : X) (others : List X). a ∷ others) (ap (λ rs. F (tree_of rs)) (below-append prefix path rows)) (map-behind F rows prefix paths)
 
 abbrev Gathers : {X : Type 0} → (Tree → X) → List Row → Type 0
 Gathers F rows = map (at_place F rows) (places (tree_of rows)) ≡ gathered F (tree_of rows)
@@ -48,11 +48,11 @@ gathers_branch {X} F rows value e further =
     (ap₂ (λ (a : X) (others : List X). a ∷ others) (at_top F rows _ e)
     (map-joined_below (at_place F rows) (λ x. behind (x ∷ []) (places (tree_of (below (x ∷ []) rows)))) 16 ∙ joined_below-agree _ _ 16 each))
 
-gathers_extension : {X : Type 0} (F : Tree → X) (rows : List Row) (front : List ℕ) → tree_of rows ≡ extension front (tree_of (below front rows)) → Gathers F (below front rows) → Gathers F rows
+gathers_extension : {X : Type 0} (F : Tree → X) (rows : List Row) (prefix : List ℕ) → tree_of rows ≡ extension prefix (tree_of (below prefix rows)) → Gathers F (below prefix rows) → Gathers F rows
 unfolding places gathered
-gathers_extension {X} F rows front e further =
+gathers_extension {X} F rows prefix e further =
     subst (λ t. map (at_place F rows) (places t) ≡ gathered F t) (sym e)
-    (ap₂ (λ (a : X) (others : List X). a ∷ others) (at_top F rows _ e) (map-behind F rows front _ ∙ further))
+    (ap₂ (λ (a : X) (others : List X). a ∷ others) (at_top F rows _ e) (map-behind F rows prefix _ ∙ further))
 
 -- The trie of the rows below a place is the subtree there.
 pub map-places : {X : Type 0} (F : Tree → X) (rows : List Row) → map (at_place F rows) (places (tree_of rows)) ≡ gathered F (tree_of rows)
@@ -60,7 +60,7 @@ map-places F = by_cases (Gathers F) (record {
   none = gathers_none F;
   one = gathers_one F;
   forks = λ row next rows e further. gathers_branch F (row ∷ next ∷ rows) _ (tree_of-forks row next rows e) further;
-  shares = λ row next rows x front e further. gathers_extension F (row ∷ next ∷ rows) (x ∷ front) (tree_of-shares row next rows x front e) further;
+  shares = λ row next rows x prefix e further. gathers_extension F (row ∷ next ∷ rows) (x ∷ prefix) (tree_of-shares row next rows x prefix e) further;
 })
 
 -- the texts of a tree by recursion

@@ -35,7 +35,7 @@ root_of-some = by_cases (λ rows. rows ≢ [] → root_of (tree_of rows) ≡ sha
   none = λ some. absurd (some refl);
   one = λ row some. subst (λ t. root_of t ≡ sha256 (text t)) (sym (tree_of-one row)) refl;
   forks = λ row next rows e further some. subst (λ t. root_of t ≡ sha256 (text t)) (sym (tree_of-forks row next rows e)) refl;
-  shares = λ row next rows x front e further some. subst (λ t. root_of t ≡ sha256 (text t)) (sym (tree_of-shares row next rows x front e)) refl;
+  shares = λ row next rows x prefix e further some. subst (λ t. root_of t ≡ sha256 (text t)) (sym (tree_of-shares row next rows x prefix e)) refl;
 })
 
 pub root_text_occurs : (state : State) → rows_of state ≢ [] → Contains (texts_of state) (text_at state [])

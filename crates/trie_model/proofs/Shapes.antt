@@ -9,18 +9,18 @@ use Rattle.sha2.proofs.Facts256.{length-sha256}
 use Rattle.byte_model.specs.Below.{sum_below}
 use Rattle.byte_model.specs.Nibbles.{AreNibbles}
 use Rattle.byte_model.specs.Node as node
-use Rattle.byte_model.specs.Node.{Node, ValueRef, IsShaped, kid_count, longest_value}
+use Rattle.byte_model.specs.Node.{Node, ValueRef, IsShaped, child_count, longest_value}
 use Rattle.byte_model.specs.Laws.{IsDigest, NamesValue, FitsRecord}
 use Rattle.trie_model.specs.State.{State, Row, IsPair, IsState, rows_of}
-use Rattle.trie_model.specs.Tree.{Tree, nothing, leaf, branch, extension, rest_behind, below, ends_here, common, common_front, tree_of}
+use Rattle.trie_model.specs.Tree.{Tree, nothing, leaf, branch, extension, rest_behind, below, ends_here, common, common_prefix, tree_of}
 use Rattle.trie_model.specs.Texts.{text, name_of, node_of, value_ref}
 use Rattle.trie_model.specs.Root.{subtree_at}
 use Rattle.trie_model.proofs.Worked.{Pair, rows_of_pairs}
-use Rattle.trie_model.proofs.Rests.{AllHaveFront, common_front-all, below-some}
+use Rattle.trie_model.proofs.Rests.{AllHavePrefix, common_prefix-all, below-some}
 use Rattle.trie_model.proofs.Trees.{tree_of-nil, tree_of-one, tree_of-forks, tree_of-shares, by_cases}
 use Rattle.trie_model.proofs.Order.{Before, RisingRows, rising-below, rising-rows_of, all-below}
 use Rattle.trie_model.proofs.Pairs.{from_before, from_empty, Small, small-below, small-rows_of}
-use Rattle.trie_model.proofs.Growth.{last_row, common_front-rising}
+use Rattle.trie_model.proofs.Growth.{last_row, common_prefix-rising}
 
 -- ---- a name is there where there are rows
 
@@ -33,7 +33,7 @@ name_of-some rows t = go rows
       none = λ some. absurd (some refl);
       one = λ row some. subst (λ tree. is_some (name_of tree t) ≡ true) (sym (tree_of-one row)) refl;
       forks = λ row next more e further some. subst (λ tree. is_some (name_of tree t) ≡ true) (sym (tree_of-forks row next more e)) refl;
-      shares = λ row next more x front e further some. subst (λ tree. is_some (name_of tree t) ≡ true) (sym (tree_of-shares row next more x front e)) refl;
+      shares = λ row next more x prefix e further some. subst (λ tree. is_some (name_of tree t) ≡ true) (sym (tree_of-shares row next more x prefix e)) refl;
     })
 
 name_of-digest : (tree : Tree) (t : List ℕ) → IfSome (name_of tree t) IsDigest
@@ -82,8 +82,8 @@ HasShortValue row = length row.1 ≤ longest_value
 abbrev pub ShortValues : List Row → Type 0
 ShortValues rows = AllByRecursion HasShortValue rows
 
-pub short-below : (front : List ℕ) (rows : List Row) → ShortValues rows → ShortValues (below front rows)
-short-below front rows h = all-below HasShortValue HasShortValue front (λ row rest e k. k) rows h
+pub short-below : (prefix : List ℕ) (rows : List Row) → ShortValues rows → ShortValues (below prefix rows)
+short-below prefix rows h = all-below HasShortValue HasShortValue prefix (λ row rest e k. k) rows h
 
 ends_here-short : (rows : List Row) → ShortValues rows → IfSome (ends_here rows) (λ value. length value ≤ longest_value)
 unfolding ends_here
@@ -130,12 +130,12 @@ apart_firsts x y p q e same =
     no_cons n ns e = cc
 
 -- rows that fork have two of children and value at least
-enough_parts : (row next : Row) (rows : List Row) → common_front row (next ∷ rows) ≡ [] → RisingRows (row ∷ next ∷ rows) → Small (row ∷ next ∷ rows) → 2 ≤ kid_count (names (row ∷ next ∷ rows)) + (if is_some (ends_here (row ∷ next ∷ rows)) then 1 else 0)
+enough_parts : (row next : Row) (rows : List Row) → common_prefix row (next ∷ rows) ≡ [] → RisingRows (row ∷ next ∷ rows) → Small (row ∷ next ∷ rows) → 2 ≤ child_count (names (row ∷ next ∷ rows)) + (if is_some (ends_here (row ∷ next ∷ rows)) then 1 else 0)
 unfolding ends_here
 enough_parts ([], value) next rows e rising small =
     let after = from_empty next.0 rising.0.0 in
     let there = named after.0 after.1 next (([], value) ∷ next ∷ rows) (inr (inl refl)) after.2 in
-    let kid = one_counted (λ i. is_some (names (([], value) ∷ next ∷ rows) i)) after.0 16 (nibble_small after.0 after.1 next after.2 small.1.0) there in
+    let child = one_counted (λ i. is_some (names (([], value) ∷ next ∷ rows) i)) after.0 16 (nibble_small after.0 after.1 next after.2 small.1.0) there in
     omega arith
 enough_parts (x ∷ p, value) next rows e rising small =
     let rs : List Row = (x ∷ p, value) ∷ next ∷ rows in
@@ -143,7 +143,7 @@ enough_parts (x ∷ p, value) next rows e rising small =
     let in_rest : IsIn (next ∷ rows) last = last_in next rows in
     let after = from_before x p last.0 (all_at (λ later. Before (x ∷ p) later.0) (next ∷ rows) last rising.0 in_rest) in
     let y : ℕ = after.0 in
-    let ends : common (x ∷ p) (y ∷ after.1) ≡ [] = ap (common (x ∷ p)) (sym after.2) ∙ sym (common_front-rising (x ∷ p, value) (next ∷ rows) rising) ∙ e in
+    let ends : common (x ∷ p) (y ∷ after.1) ≡ [] = ap (common (x ∷ p)) (sym after.2) ∙ sym (common_prefix-rising (x ∷ p, value) (next ∷ rows) rising) ∙ e in
     let apart = apart_firsts x y p after.1 ends in
     let not_below : x ≤ y = after.3 in
     let y_small : y < 16 = nibble_small y after.1 last after.2 (all_at (λ row. AreNibbles row.0) (next ∷ rows) last small.1 in_rest) in
@@ -152,7 +152,7 @@ enough_parts (x ∷ p, value) next rows e rising small =
     let kids = two_counted (λ i. is_some (names rs i)) x y 16 (omega arith) y_small first second in
     omega arith
 
-shaped_branch : (value : Option (List ℕ)) (kids : ℕ → Option (List ℕ)) → IfSome value (λ v. length v ≤ longest_value) → 2 ≤ kid_count kids + (if is_some value then 1 else 0) → IsShaped (node.branch (option_map value_ref value) kids)
+shaped_branch : (value : Option (List ℕ)) (kids : ℕ → Option (List ℕ)) → IfSome value (λ v. length v ≤ longest_value) → 2 ≤ child_count kids + (if is_some value then 1 else 0) → IsShaped (node.branch (option_map value_ref value) kids)
 shaped_branch None kids short enough = omega arith
 shaped_branch (Some value) kids short enough = (short, omega arith)
 
@@ -171,9 +171,9 @@ names_maybe : (value : Option (List ℕ)) → IfSome value (λ v. length v ≤ l
 names_maybe None h = tt
 names_maybe (Some value) h = names_value value h
 
-AreNibbles-front : (front rest : List ℕ) → AreNibbles (front ++ rest) → AreNibbles front
-AreNibbles-front [] rest h = tt
-AreNibbles-front (x ∷ front) rest h = (h.0, AreNibbles-front front rest h.1)
+AreNibbles-prefix : (prefix rest : List ℕ) → AreNibbles (prefix ++ rest) → AreNibbles prefix
+AreNibbles-prefix [] rest h = tt
+AreNibbles-prefix (x ∷ prefix) rest h = (h.0, AreNibbles-prefix prefix rest h.1)
 
 pub sound_nodes : (rows : List Row) → RisingRows rows → Small rows → ShortValues rows → IfSome (node_of (tree_of rows)) (λ node. IsShaped node × FitsRecord node)
 unfolding node_of
@@ -185,14 +185,14 @@ sound_nodes = by_cases IsSoundAt (record {
       let value = ends_here-short rs short in
       subst (λ t. IfSome (node_of t) IsSound) (sym (tree_of-forks row next rows e))
       (shaped_branch (ends_here rs) (names rs) value (enough_parts row next rows e rising small), (names_maybe (ends_here rs) value, λ x h. name_of-digest (tree_of (below (x ∷ []) rs)) (text (tree_of (below (x ∷ []) rs)))));
-  shares = λ row next rows x front e further rising small short.
-      let all = subst (λ (f : List ℕ). AllHaveFront f (row ∷ next ∷ rows)) e (common_front-all row (next ∷ rows)) in
-      subst (λ t. IfSome (node_of t) IsSound) (sym (tree_of-shares row next rows x front e))
-      (cons_some x front, (AreNibbles-front (x ∷ front) all.0.0 (subst AreNibbles all.0.1 small.0), length-sha256 _));
+  shares = λ row next rows x prefix e further rising small short.
+      let all = subst (λ (f : List ℕ). AllHavePrefix f (row ∷ next ∷ rows)) e (common_prefix-all row (next ∷ rows)) in
+      subst (λ t. IfSome (node_of t) IsSound) (sym (tree_of-shares row next rows x prefix e))
+      (cons_some x prefix, (AreNibbles-prefix (x ∷ prefix) all.0.0 (subst AreNibbles all.0.1 small.0), length-sha256 _));
 })
   where
-    cons_some : (x : ℕ) (front : List ℕ) → x ∷ front ≢ []
-    cons_some x front e = cc
+    cons_some : (x : ℕ) (prefix : List ℕ) → x ∷ prefix ≢ []
+    cons_some x prefix e = cc
 
 -- ---- of a state
 

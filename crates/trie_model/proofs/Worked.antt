@@ -10,15 +10,15 @@ use Rattle.byte_model.specs.Borsh.{borsh_u16, borsh_u32, borsh_u64}
 use Rattle.byte_model.specs.Nibbles.{nibbles}
 use Rattle.byte_model.specs.PackedPath.{two_to_a_byte, packed_behind, packed}
 use Rattle.byte_model.specs.Below.{sum_below, joined_below}
-use Rattle.byte_model.specs.Node.{spelled_kids, spelled}
+use Rattle.byte_model.specs.Node.{spelled_children, spelled}
 use Rattle.trie_model.specs.State.{State, Row, rows_of}
-use Rattle.trie_model.specs.Tree.{rest_behind, below, ends_here, common, common_front, tree_within, longest, tree_of}
+use Rattle.trie_model.specs.Tree.{rest_behind, below, ends_here, common, common_prefix, tree_within, longest, tree_of}
 use Rattle.trie_model.specs.Texts.{top_cost, usage, name_of, text, places}
 use Rattle.trie_model.specs.Root.{zero_digest, root_of, root, total, subtree_at, texts_of}
 
 -- what a proof by computing opens
 unfoldable pub everything : ℕ
-unfolding rest_behind below ends_here common common_front tree_within longest tree_of top_cost usage name_of text places root_of nibbles two_to_a_byte packed_behind packed sum_below joined_below spelled_kids spelled borsh_u16 borsh_u32 borsh_u64 digest_bytes hash_after compress rounds schedule first_words sha256 encode_with
+unfolding rest_behind below ends_here common common_prefix tree_within longest tree_of top_cost usage name_of text places root_of nibbles two_to_a_byte packed_behind packed sum_below joined_below spelled_children spelled borsh_u16 borsh_u32 borsh_u64 digest_bytes hash_after compress rounds schedule first_words sha256 encode_with
 everything = 0
 
 abbrev pub Pair : Type 0

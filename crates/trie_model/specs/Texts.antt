@@ -29,7 +29,7 @@ usage (extension path child) = top_cost (extension path child) + usage child
 
 -- how a node names a value
 abbrev pub value_ref : List ℕ → ValueRef
-value_ref value = record { size = length value; digest = sha256 value }
+value_ref value = record { length = length value; digest = sha256 value }
 
 -- how a parent names a subtree that has this text, if it is there
 unfoldable pub name_of : Tree → List ℕ → Option (List ℕ)
@@ -54,9 +54,9 @@ node_of (extension path child) = Some (node.extension path (sha256 (text child))
 
 -- ---- places
 
--- each path with a front before it
+-- each path with a prefix before it
 abbrev pub behind : List ℕ → List (List ℕ) → List (List ℕ)
-behind front paths = map (λ path. front ++ path) paths
+behind prefix paths = map (λ path. prefix ++ path) paths
 
 -- The places of a subtree, by the paths that lead to them, in the order of paths, a prefix first.
 unfoldable pub places : Tree → List (List ℕ)

@@ -1,5 +1,5 @@
 -- The canonical trie of a list of rows (after nearcore; the exact rule is this project's).
--- Three cases: one row is a leaf; several rows whose rests share a front are an extension by the longest such front; other rows are a branch.
+-- Three cases: one row is a leaf; several rows whose rests share a prefix are an extension by the longest such prefix; other rows are a branch.
 use Rattle.std.specs.Prelude.{ℕ, zero, suc, ◌==◌, max, List, [], ◌∷◌, length, Option, None, Some, if◌then◌else◌}
 use Rattle.std.specs.List.{filter_map}
 use Rattle.std.specs.Option.{option_map}
@@ -7,19 +7,19 @@ use Rattle.trie_model.specs.State.{Row}
 
 -- ---- what lies below a path
 
--- what is left of a path behind a front, if it has that front
+-- what is left of a path behind a prefix, if it has that prefix
 unfoldable pub rest_behind : List ℕ → List ℕ → Option (List ℕ)
 rest_behind [] path = Some path
-rest_behind (x ∷ front) [] = None
-rest_behind (x ∷ front) (y ∷ path) = if x == y then rest_behind front path else None
+rest_behind (x ∷ prefix) [] = None
+rest_behind (x ∷ prefix) (y ∷ path) = if x == y then rest_behind prefix path else None
 
--- a row with what is left of its path behind a front, if the path has that front
+-- a row with what is left of its path behind a prefix, if the path has that prefix
 abbrev pub row_behind : List ℕ → Row → Option Row
-row_behind front row = option_map (λ rest. (rest, row.1)) (rest_behind front row.0)
+row_behind prefix row = option_map (λ rest. (rest, row.1)) (rest_behind prefix row.0)
 
--- the rows whose paths have this front, each with what is left of its path
+-- the rows whose paths have this prefix, each with what is left of its path
 unfoldable pub below : List ℕ → List Row → List Row
-below front rows = filter_map (row_behind front) rows
+below prefix rows = filter_map (row_behind prefix) rows
 
 -- the value of the row that ends here, the first of them in a list that is no state's
 unfoldable pub ends_here : List Row → Option (List ℕ)
@@ -27,18 +27,18 @@ ends_here [] = None
 ends_here (([], value) ∷ rows) = Some value
 ends_here ((x ∷ path, value) ∷ rows) = ends_here rows
 
--- ---- the front that paths share
+-- ---- the prefix that paths share
 
--- the longest common front of two paths
+-- the longest common prefix of two paths
 unfoldable pub common : List ℕ → List ℕ → List ℕ
 common [] path = []
-common (x ∷ front) [] = []
-common (x ∷ front) (y ∷ path) = if x == y then x ∷ common front path else []
+common (x ∷ prefix) [] = []
+common (x ∷ prefix) (y ∷ path) = if x == y then x ∷ common prefix path else []
 
--- the longest common front of the rows, of at least one row
-unfoldable pub common_front : Row → List Row → List ℕ
-common_front row [] = row.0
-common_front row (next ∷ rows) = common row.0 (common_front next rows)
+-- the longest common prefix of the rows, of at least one row
+unfoldable pub common_prefix : Row → List Row → List ℕ
+common_prefix row [] = row.0
+common_prefix row (next ∷ rows) = common row.0 (common_prefix next rows)
 
 -- ---- the trie
 
@@ -49,16 +49,16 @@ pub data Tree : Type 0 where
   branch : (value : Option (List ℕ)) (kids : ℕ → Tree) → Tree
   extension : (path : List ℕ) (child : Tree) → Tree
 
--- several rows that share this front: an extension, where the front is not empty, else a branch
+-- several rows that share this prefix: an extension, where the prefix is not empty, else a branch
 abbrev pub forked : (List Row → Tree) → List ℕ → List Row → Tree
 forked subtree [] rows = branch (ends_here rows) (λ x. subtree (below (x ∷ []) rows))
-forked subtree (x ∷ front) rows = extension (x ∷ front) (subtree (below (x ∷ front) rows))
+forked subtree (x ∷ prefix) rows = extension (x ∷ prefix) (subtree (below (x ∷ prefix) rows))
 
 -- the three cases, and that of no row, where `subtree` gives the trie of the rows below
 abbrev pub tree_by : (List Row → Tree) → List Row → Tree
 tree_by subtree [] = nothing
 tree_by subtree (row ∷ []) = leaf row.0 row.1
-tree_by subtree (row ∷ next ∷ rows) = forked subtree (common_front row (next ∷ rows)) (row ∷ next ∷ rows)
+tree_by subtree (row ∷ next ∷ rows) = forked subtree (common_prefix row (next ∷ rows)) (row ∷ next ∷ rows)
 
 -- at most this many nodes below one another: each step down leaves shorter rests
 unfoldable pub tree_within : ℕ → List Row → Tree

@@ -1,4 +1,4 @@
--- What is left of a bound behind a front.
+-- What is left of a bound behind a prefix.
 use Rattle.std.proofs.Common.{◌≡◌, ◌≢◌, ℕ, suc, ◌<◌, ◌≤◌, Bool, true, false, List, [], ◌∷◌, ◌++◌, length, take, drop, get_or, None, Some, refl, sym, ap, ap₂, ◌∙◌, arith}
 use Rattle.std.specs.Prelude.{◌==◌}
 use Rattle.std.proofs.Math.Seq.{drop-cons}
@@ -8,16 +8,16 @@ use Rattle.trie_model.proofs.Rests.{same_nibble}
 use Rattle.visit_model.specs.Steps.{bound_behind}
 use Rattle.nibble_keys.specs.CommonLength.{IsCommonLength}
 
-none_left : (front more : List ℕ) → bound_behind (front ++ more) front ≡ Some []
+none_left : (prefix more : List ℕ) → bound_behind (prefix ++ more) prefix ≡ Some []
 unfolding bound_behind
 none_left [] [] = refl
 none_left [] (x ∷ more) = refl
-none_left (x ∷ front) more = rw (same_nibble x) (none_left front more)
+none_left (x ∷ prefix) more = rw (same_nibble x) (none_left prefix more)
 
-rest_left : (front rest : List ℕ) → bound_behind front (front ++ rest) ≡ Some rest
+rest_left : (prefix rest : List ℕ) → bound_behind prefix (prefix ++ rest) ≡ Some rest
 unfolding bound_behind
 rest_left [] rest = refl
-rest_left (x ∷ front) rest = rw (same_nibble x) (rest_left front rest)
+rest_left (x ∷ prefix) rest = rw (same_nibble x) (rest_left prefix rest)
 
 apart : (shared : List ℕ) (x y : ℕ) (p q : List ℕ) → bound_behind (shared ++ x ∷ p) (shared ++ y ∷ q) ≡ bound_behind (x ∷ p) (y ∷ q)
 unfolding bound_behind
@@ -44,15 +44,15 @@ above_first x y p q h = rw (differ x y (omega arith), le-ltb x y (omega arith)) 
 -- all of the bound
 pub side-above : (p q : List ℕ) (n : ℕ) → IsCommonLength p q n → n ≡ length q → bound_behind p q ≡ Some []
 side-above p q n shared all =
-    let front : take n p ≡ q = shared.shared ∙ take_all n q (omega arith) in
-    let whole : p ≡ q ++ drop n p = sym (take-append-drop n p) ∙ ap (λ (l : List ℕ). l ++ drop n p) front in
+    let prefix : take n p ≡ q = shared.shared ∙ take_all n q (omega arith) in
+    let whole : p ≡ q ++ drop n p = sym (take-append-drop n p) ∙ ap (λ (l : List ℕ). l ++ drop n p) prefix in
     ap (λ (l : List ℕ). bound_behind l q) whole ∙ none_left q (drop n p)
 
--- all of the front
+-- all of the prefix
 pub side-within : (p q : List ℕ) (n : ℕ) → IsCommonLength p q n → n ≡ length p → bound_behind p q ≡ Some (drop (length p) q)
 side-within p q n shared all =
-    let front : take n q ≡ p = sym shared.shared ∙ take_all n p (omega arith) in
-    let whole : q ≡ p ++ drop n q = sym (take-append-drop n q) ∙ ap (λ (l : List ℕ). l ++ drop n q) front in
+    let prefix : take n q ≡ p = sym shared.shared ∙ take_all n p (omega arith) in
+    let whole : q ≡ p ++ drop n q = sym (take-append-drop n q) ∙ ap (λ (l : List ℕ). l ++ drop n q) prefix in
     ap (bound_behind p) whole ∙ rest_left p (drop n q) ∙ ap (λ (k : ℕ). Some (drop k q)) all
 
 -- neither: what follows decides

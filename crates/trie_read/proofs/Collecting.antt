@@ -13,9 +13,9 @@ use Rattle.visit_model.specs.Steps.{Step, no_text, no_node, value, value_steps, 
 use Rattle.visit_model.specs.Steps as step
 use Rattle.visit_model.specs.Visits.{Visits, missing, bad, refused, node_first, value_first, value_visit, visits_of}
 use Rattle.visit_model.proofs.Collected.{rows_of-insert}
-use Rattle.base_core.specs.Held.{Held}
+use Rattle.base_core.specs.PairMaps.{PairMap}
 use Rattle.node_codec.specs.declared.value_ref.ValueRef as codec
-use Rattle.node_codec.specs.Shown.{value_of}
+use Rattle.node_codec.specs.Meanings.{value_of}
 use Rattle.text_store.specs.Loading.{Digests}
 use Rattle.text_store.specs.Visiting.{HasLoaded, Remembers}
 use Rattle.text_store.proofs.Visiting.{HasLoaded-then, Remembers-then}
@@ -30,11 +30,11 @@ abbrev pub after : List (List ℕ) → List Row → Visits → Visits
 after digests rows v = record { digests = digests ++ v.digests; values = rows ++ v.values; refusal = v.refusal }
 
 -- the places that are left, where so many further values may be visited
-abbrev pub left_of : Table → List ℕ → ℕ → Walk → Held → Visits
+abbrev pub left_of : Table → List ℕ → ℕ → Walk → PairMap → Visits
 left_of table from most walk pairs = visits_of table (most - length (rows_of pairs.state)) (steps_of table from walk.path.items walk.pending.items)
 
 -- These texts were visited and these pairs collected, and the walk has the rest.
-pub record IsListing {S : Type 0} (alike : S → S → Type 0) (loads faults : S → ℕ) (kept : S → Option Digests) (old now : S) (table : Table) (from : List ℕ) (visits : Visits) (most : ℕ) (walk : Walk) (pairs : Held) : Type 0 where
+pub record IsListing {S : Type 0} (alike : S → S → Type 0) (loads faults : S → ℕ) (kept : S → Option Digests) (old now : S) (table : Table) (from : List ℕ) (visits : Visits) (most : ℕ) (walk : Walk) (pairs : PairMap) : Type 0 where
   pub digests : List (List ℕ)
   pub all : visits ≡ after digests (rows_of pairs.state) (left_of table from most walk pairs)
   pub loaded : HasLoaded alike loads faults old now (length digests)
@@ -43,7 +43,7 @@ pub record IsListing {S : Type 0} (alike : S → S → Type 0) (loads faults : S
   pub most_is : pairs.most ≡ most
 
 -- the same with a node just visited, whose value comes next, if it has one
-pub record IsBetween {S : Type 0} (alike : S → S → Type 0) (loads faults : S → ℕ) (kept : S → Option Digests) (old now : S) (table : Table) (from : List ℕ) (visits : Visits) (most : ℕ) (walk : Walk) (pairs : Held) (found : Option codec.ValueRef) : Type 0 where
+pub record IsBetween {S : Type 0} (alike : S → S → Type 0) (loads faults : S → ℕ) (kept : S → Option Digests) (old now : S) (table : Table) (from : List ℕ) (visits : Visits) (most : ℕ) (walk : Walk) (pairs : PairMap) (found : Option codec.ValueRef) : Type 0 where
   pub digests : List (List ℕ)
   pub all : visits ≡ after digests (rows_of pairs.state) (visits_of table (most - length (rows_of pairs.state)) (value_steps walk.path.items (option_map value_of found) ++ steps_of table from walk.path.items walk.pending.items))
   pub loaded : HasLoaded alike loads faults old now (length digests)
@@ -82,7 +82,7 @@ value-step table most n path ref held steps h e = rw (one_more most n h) (ap (λ
 
 -- ---- the node of a place
 
-pub place-passed : {S : Type 0} (alike : S → S → Type 0) (loads faults : S → ℕ) (kept : S → Option Digests) (old mid new : S) (table : Table) (from : List ℕ) (visits : Visits) (most : ℕ) (before popped walk : Walk) (pairs : Held) (place : Place) (found : Option codec.ValueRef) → ((a b c : S) → alike a b → alike b c → alike a c) → IsListing alike loads faults kept old mid table from visits most before pairs → length (rows_of pairs.state) < most → before.pending.items ≡ popped.pending.items ++ place ∷ [] → popped.path.items ≡ before.path.items → Passed table from popped walk place found → LeftByPlace {X = Option codec.ValueRef} alike loads faults kept mid new place.digest.0 (Ok found) → IsBetween alike loads faults kept old new table from visits most walk pairs found
+pub place-passed : {S : Type 0} (alike : S → S → Type 0) (loads faults : S → ℕ) (kept : S → Option Digests) (old mid new : S) (table : Table) (from : List ℕ) (visits : Visits) (most : ℕ) (before popped walk : Walk) (pairs : PairMap) (place : Place) (found : Option codec.ValueRef) → ((a b c : S) → alike a b → alike b c → alike a c) → IsListing alike loads faults kept old mid table from visits most before pairs → length (rows_of pairs.state) < most → before.pending.items ≡ popped.pending.items ++ place ∷ [] → popped.path.items ≡ before.path.items → Passed table from popped walk place found → LeftByPlace {X = Option codec.ValueRef} alike loads faults kept mid new place.digest.0 (Ok found) → IsBetween alike loads faults kept old new table from visits most walk pairs found
 place-passed alike loads faults kept old mid new table from visits most before popped walk pairs place found onward is room pending_is path_is passed left =
     let rows = rows_of pairs.state in
     let further = value_steps walk.path.items (option_map value_of found) ++ steps_of table from walk.path.items walk.pending.items in
@@ -99,11 +99,11 @@ place-passed alike loads faults kept old mid new table from visits most before p
     }
 
 -- without a value
-pub no-value : {S : Type 0} (alike : S → S → Type 0) (loads faults : S → ℕ) (kept : S → Option Digests) (old now : S) (table : Table) (from : List ℕ) (visits : Visits) (most : ℕ) (walk : Walk) (pairs : Held) → IsBetween alike loads faults kept old now table from visits most walk pairs None → IsListing alike loads faults kept old now table from visits most walk pairs
+pub no-value : {S : Type 0} (alike : S → S → Type 0) (loads faults : S → ℕ) (kept : S → Option Digests) (old now : S) (table : Table) (from : List ℕ) (visits : Visits) (most : ℕ) (walk : Walk) (pairs : PairMap) → IsBetween alike loads faults kept old now table from visits most walk pairs None → IsListing alike loads faults kept old now table from visits most walk pairs
 no-value alike loads faults kept old now table from visits most walk pairs is = record { digests = is.digests; all = is.all; loaded = is.loaded; remembers = is.remembers; walk_is = is.walk_is; most_is = is.most_is }
 
 -- with one, which was collected
-pub value-added : {S : Type 0} (alike : S → S → Type 0) (loads faults : S → ℕ) (kept : S → Option Digests) (old mid new : S) (table : Table) (from : List ℕ) (visits : Visits) (most : ℕ) (walk : Walk) (pairs collected : Held) (ref : codec.ValueRef) → ((a b c : S) → alike a b → alike b c → alike a c) → IsStrictlySortedBy (slice_cmp nat_cmp) (map (λ row. row.0) visits.values) → IsBetween alike loads faults kept old mid table from visits most walk pairs (Some ref) → Added table walk.path.items ref pairs collected → LeftByPlace {X = Unit {0}} alike loads faults kept mid new ref.digest.0 (Ok tt) → IsListing alike loads faults kept old new table from visits most walk collected
+pub value-added : {S : Type 0} (alike : S → S → Type 0) (loads faults : S → ℕ) (kept : S → Option Digests) (old mid new : S) (table : Table) (from : List ℕ) (visits : Visits) (most : ℕ) (walk : Walk) (pairs collected : PairMap) (ref : codec.ValueRef) → ((a b c : S) → alike a b → alike b c → alike a c) → IsStrictlySortedBy (slice_cmp nat_cmp) (map (λ row. row.0) visits.values) → IsBetween alike loads faults kept old mid table from visits most walk pairs (Some ref) → Added table walk.path.items ref pairs collected → LeftByPlace {X = Unit {0}} alike loads faults kept mid new ref.digest.0 (Ok tt) → IsListing alike loads faults kept old new table from visits most walk collected
 unfolding value_visit
 value-added alike loads faults kept old mid new table from visits most walk pairs collected ref onward rising is added left =
     let rows = rows_of pairs.state in
@@ -115,7 +115,7 @@ value-added alike loads faults kept old mid new table from visits most walk pair
     is.all ∙ ap (after is.digests rows) (value-step table most (length rows) path ref (Some added.text) steps is.room added.held ∙ rw (eq-eqb (length added.text) ref.length added.length_is) refl) ∙ after-value is.digests rows ref.digest.0 row later in
     let key_is : row ≡ (nibbles added.lays.key, added.text) = ap (λ (p : List ℕ). (p, added.text)) (sym added.lays.nibbles_are) in
     let values : visits.values ≡ rows ++ (nibbles added.lays.key, added.text) ∷ later.values = ap (λ (v : Visits). v.values) all ∙ append_assoc rows (row ∷ []) later.values ∙ ap (λ (r : Row). rows ++ r ∷ later.values) key_is in
-    let put : rows_of collected.state ≡ rows ++ row ∷ [] = ap (λ (h : Held). rows_of h.state) added.lays.laid_is ∙ rows_of-insert pairs.state added.lays.key added.text later.values (subst (λ (rs : List Row). IsStrictlySortedBy (slice_cmp nat_cmp) (map (λ r. r.0) rs)) values rising) ∙ ap (λ (r : Row). rows ++ r ∷ []) (sym key_is) in
+    let put : rows_of collected.state ≡ rows ++ row ∷ [] = ap (λ (h : PairMap). rows_of h.state) added.lays.laid_is ∙ rows_of-insert pairs.state added.lays.key added.text later.values (subst (λ (rs : List Row). IsStrictlySortedBy (slice_cmp nat_cmp) (map (λ r. r.0) rs)) values rising) ∙ ap (λ (r : Row). rows ++ r ∷ []) (sym key_is) in
     let count : suc (length rows) ≡ length (rows_of collected.state) = (let n = length-append rows (row ∷ []) in omega arith) ∙ sym (ap length put) in
     record {
       digests = is.digests ++ ref.digest.0 ∷ [];
@@ -123,5 +123,5 @@ value-added alike loads faults kept old mid new table from visits most walk pair
       loaded = subst (HasLoaded alike loads faults old new) (sym (length-append is.digests (ref.digest.0 ∷ []))) (HasLoaded-then alike loads faults old mid new (length is.digests) 1 onward is.loaded left.0);
       remembers = Remembers-then (kept old) (kept mid) (kept new) is.digests (ref.digest.0 ∷ []) is.remembers left.1;
       walk_is = is.walk_is;
-      most_is = ap (λ (h : Held). h.most) added.lays.laid_is ∙ is.most_is;
+      most_is = ap (λ (h : PairMap). h.most) added.lays.laid_is ∙ is.most_is;
     }

@@ -17,15 +17,15 @@ use Rattle.visit_model.specs.Steps as step
 use Rattle.visit_model.proofs.SeenBounds.{place_fits, branch_room, extension_room}
 use Rattle.base_core.specs.declared.hash.Digest.{Digest}
 use Rattle.node_codec.specs.declared.value_ref.ValueRef as codec
-use Rattle.node_codec.specs.Shown.{value_of}
+use Rattle.node_codec.specs.Meanings.{value_of}
 use Rattle.trie_read.specs.declared.walk.Place.{Place}
 use Rattle.trie_read.specs.declared.walk.Walk.{Walk}
-use Rattle.trie_read.specs.Walks.{steps_at, steps_of, Stacked, IsWalk, IsBound, FitsSomewhere, kid_steps, Enters}
+use Rattle.trie_read.specs.Walks.{steps_at, steps_of, Stacked, IsWalk, IsBound, FitsSomewhere, child_steps, Enters}
 use Rattle.trie_read.proofs.Stacks.{steps_of-push, steps_of-same, Stacked-push, Stacked-widen}
 
--- a front agrees with what is longer
-front_agrees : (before more : List ℕ) → take (length before) before ≡ take (length before) (before ++ more)
-front_agrees before more = take_all (length before) before (omega arith) ∙ sym (take_at before more (length before) refl)
+-- a prefix agrees with what is longer
+prefix_agrees : (before more : List ℕ) → take (length before) before ≡ take (length before) (before ++ more)
+prefix_agrees before more = take_all (length before) before (omega arith) ∙ sym (take_at before more (length before) refl)
 
 -- ---- a leaf
 
@@ -64,7 +64,7 @@ leaf-entered old new path bound ref fits is above path_is small pending_is =
       steps = λ table digest from usage at.
           ap (λ (o : Option (List ℕ)). (step.node digest ∷ reached_steps (before ++ path) (Some (value_of ref)) o) ++ steps_of table from before old.pending.items) above
           ∙ ap (λ (l : List Step). step.node digest ∷ value_steps (before ++ path) (Some (value_of ref)) ++ l)
-          (steps_of-same table from before (before ++ path) (length before) old.pending.items is.stacked (front_agrees before path))
+          (steps_of-same table from before (before ++ path) (length before) old.pending.items is.stacked (prefix_agrees before path))
           ∙ ap₂ (λ (p : List ℕ) (places : List Place). step.node digest ∷ value_steps p (Some (value_of ref)) ++ steps_of table from p places) (sym path_is) (sym pending_is);
       walk = record {
         small = small;
@@ -94,7 +94,7 @@ whole_branch depth after_extension ref kids fits =
 
 -- what taking up the children says
 abbrev pub Pushed : (ℕ → Option (List ℕ)) → List ℕ → (old new : List Place) → ℕ → Type 0
-Pushed kids bound old new depth = (table : Table) (from path : List ℕ) → length path ≡ depth → IsBound from depth bound → joined_below (kid_steps table path bound kids) 16 ++ steps_of table from path old ≡ steps_of table from path new
+Pushed kids bound old new depth = (table : Table) (from path : List ℕ) → length path ≡ depth → IsBound from depth bound → joined_below (child_steps table path bound kids) 16 ++ steps_of table from path old ≡ steps_of table from path new
 
 abbrev pub StaysStacked : (old new : List Place) → ℕ → Type 0
 StaysStacked old new depth = depth < longest_path → Stacked depth old → Stacked depth new
@@ -106,7 +106,7 @@ branch_steps : (old new : Walk) (bound : List ℕ) (ref found : Option codec.Val
 unfolding listing_steps seen_node
 branch_steps old new bound ref found kids first pushed path_is table digest from usage at =
     let before = old.path.items in
-    let below = joined_below (kid_steps table before bound kids) 16 in
+    let below = joined_below (child_steps table before bound kids) 16 in
     ap (λ (l : List Step). step.node digest ∷ ((l ++ below) ++ steps_of table from before old.pending.items)) first
     ∙ ap (λ (l : List Step). step.node digest ∷ l) (append_assoc (value_steps before (option_map value_of found)) below (steps_of table from before old.pending.items))
     ∙ ap (λ (l : List Step). step.node digest ∷ value_steps before (option_map value_of found) ++ l) (pushed table from before refl at)
@@ -136,25 +136,25 @@ child_bound path [] from depth true rest is left (inr e) = absurd (let less = le
 child_bound path (y ∷ bound) from depth true rest is left (inr e) = absurd cc
 
 -- they are not
-pub extension-entered : (old new : Walk) (path bound rest : List ℕ) (child : Digest) (bounded : Bool) → FitsSomewhere (length old.path.items) (node.extension path child.0) → IsWalk old.path.items old.pending.items → bound_behind path bound ≡ Some rest → Left bounded path bound rest → new.path.items ≡ old.path.items ++ path → AreNibbles new.path.items → new.pending.items ≡ old.pending.items ++ record { digest = child; front = length new.path.items; nibble = None; after_extension = true; bounded = bounded } ∷ [] → Enters old new (node.extension path child.0) bound None
+pub extension-entered : (old new : Walk) (path bound rest : List ℕ) (child : Digest) (bounded : Bool) → FitsSomewhere (length old.path.items) (node.extension path child.0) → IsWalk old.path.items old.pending.items → bound_behind path bound ≡ Some rest → Left bounded path bound rest → new.path.items ≡ old.path.items ++ path → AreNibbles new.path.items → new.pending.items ≡ old.pending.items ++ record { digest = child; prefix = length new.path.items; nibble = None; after_extension = true; bounded = bounded } ∷ [] → Enters old new (node.extension path child.0) bound None
 unfolding listing_steps seen_node behind
 extension-entered old new path bound rest child bounded fits is reached left path_is small pending_is =
     let before = old.path.items in
-    let place : Place = record { digest = child; front = length new.path.items; nibble = None; after_extension = true; bounded = bounded } in
+    let place : Place = record { digest = child; prefix = length new.path.items; nibble = None; after_extension = true; bounded = bounded } in
     let count : length new.path.items ≡ length before + length path = ap length path_is ∙ length-append before path in
     let depth : length before + length path ≡ length new.path.items + 0 = omega arith in
-    let front : before ++ path ≡ take (length new.path.items) new.path.items ++ [] = sym path_is ∙ sym (take_all (length new.path.items) new.path.items (omega arith)) ∙ sym (append-nil _) in
+    let prefix : before ++ path ≡ take (length new.path.items) new.path.items ++ [] = sym path_is ∙ sym (take_all (length new.path.items) new.path.items (omega arith)) ∙ sym (append-nil _) in
     let room = extension_room (length before) fits.0 path child.0 (place_fits (length before) fits.0 (node.extension path child.0) fits.1) in
     record {
       steps = λ table digest from usage at.
           let bound_is : rest ≡ (if bounded then drop (length new.path.items + 0) from else []) = child_bound path bound from (length before) bounded rest reached left at ∙ ap (λ (n : ℕ). if bounded then drop n from else []) depth in
-          let below : listing_steps (seen_at table (length before + length path) true child.0) (before ++ path) rest ≡ steps_at table from new.path.items place = λ i. listing_steps (seen_at table (depth i) true child.0) (front i) (bound_is i) in
+          let below : listing_steps (seen_at table (length before + length path) true child.0) (before ++ path) rest ≡ steps_at table from new.path.items place = λ i. listing_steps (seen_at table (depth i) true child.0) (prefix i) (bound_is i) in
           ap (λ (o : Option (List ℕ)). (step.node digest ∷ behind (listing_steps (seen_at table (length before + length path) true child.0) (before ++ path)) o) ++ steps_of table from before old.pending.items) reached
-          ∙ ap₂ (λ (k l : List Step). step.node digest ∷ k ++ l) below (steps_of-same table from before (before ++ path) (length before) old.pending.items is.stacked (front_agrees before path) ∙ ap (λ (p : List ℕ). steps_of table from p old.pending.items) (sym path_is))
+          ∙ ap₂ (λ (k l : List Step). step.node digest ∷ k ++ l) below (steps_of-same table from before (before ++ path) (length before) old.pending.items is.stacked (prefix_agrees before path) ∙ ap (λ (p : List ℕ). steps_of table from p old.pending.items) (sym path_is))
           ∙ ap (λ (l : List Step). step.node digest ∷ l) (sym (steps_of-push table from new.path.items old.pending.items place) ∙ ap (steps_of table from new.path.items) (sym pending_is));
       walk = record {
         small = small;
-        stacked = subst (Stacked (length new.path.items)) (sym pending_is) (Stacked-push (length new.path.items) old.pending.items place (Stacked-widen (length before) (length new.path.items) old.pending.items (omega arith) is.stacked) (record { front = omega arith; deep = omega arith; small = tt }) refl);
+        stacked = subst (Stacked (length new.path.items)) (sym pending_is) (Stacked-push (length new.path.items) old.pending.items place (Stacked-widen (length before) (length new.path.items) old.pending.items (omega arith) is.stacked) (record { prefix = omega arith; deep = omega arith; small = tt }) refl);
       };
       whole = tt;
     }

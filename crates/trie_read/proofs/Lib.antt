@@ -1,4 +1,4 @@
-pub mod Fronts
+pub mod Prefixes
 pub mod Seeing
 pub mod Stores
 pub mod There

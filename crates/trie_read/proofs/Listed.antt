@@ -16,10 +16,10 @@ use Rattle.visit_model.specs.Steps.{Step, no_text, no_node, value, value_steps, 
 use Rattle.visit_model.specs.Visits.{Visits, Refusal, missing, bad, no_visits, refused, value_first, value_visit, visits_of, listing_visits}
 use Rattle.visit_model.specs.Bounds.{reaches}
 use Rattle.visit_model.proofs.Listings.{reads-state, rows_from-pairs}
-use Rattle.base_core.specs.Held.{Held}
+use Rattle.base_core.specs.PairMaps.{PairMap}
 use Rattle.base_core.specs.declared.hash.Digest.{Digest}
 use Rattle.node_codec.specs.declared.value_ref.ValueRef as codec
-use Rattle.node_codec.specs.Shown.{value_of}
+use Rattle.node_codec.specs.Meanings.{value_of}
 use Rattle.text_store.specs.Loading.{Digests}
 use Rattle.text_store.specs.Visiting.{HasLoaded, Remembers}
 use Rattle.text_store.proofs.Visiting.{HasLoaded-none, HasLoaded-then, Remembers-none}
@@ -38,7 +38,7 @@ use Rattle.trie_read.proofs.Stacks.{steps_of-push}
 use Rattle.trie_read.proofs.Collecting.{after, left_of, IsListing, IsBetween, one_more, no_text-step, no_node-step, value-step}
 
 -- what is owed for an answer
-pub record Answered {S : Type 0} (alike : S → S → Type 0) (loads faults : S → ℕ) (kept : S → Option Digests) (old new : S) (visits : Visits) (most : ℕ) (result : Result Held ListError) : Type 0 where
+pub record Answered {S : Type 0} (alike : S → S → Type 0) (loads faults : S → ℕ) (kept : S → Option Digests) (old new : S) (visits : Visits) (most : ℕ) (result : Result PairMap ListError) : Type 0 where
   pub leaves : LeavesListed alike loads faults kept old new visits.digests result
   pub answers : AnswersListing visits most result
 
@@ -53,7 +53,7 @@ no_root table top from most is = ap (λ (b : Bool). visits_of table most (listin
     none zero = refl
     none (suc n) = refl
 
-pub listed_none : {S : Type 0} (alike : S → S → Type 0) (loads faults : S → ℕ) (kept : S → Option Digests) (old : S) (visits : Visits) (most : ℕ) (pairs : Held) → ((a : S) → alike a a) → visits ≡ no_visits → pairs.state ≡ empty → pairs.most ≡ most → Answered alike loads faults kept old old visits most (Ok pairs)
+pub listed_none : {S : Type 0} (alike : S → S → Type 0) (loads faults : S → ℕ) (kept : S → Option Digests) (old : S) (visits : Visits) (most : ℕ) (pairs : PairMap) → ((a : S) → alike a a) → visits ≡ no_visits → pairs.state ≡ empty → pairs.most ≡ most → Answered alike loads faults kept old old visits most (Ok pairs)
 listed_none alike loads faults kept old visits most pairs itself none state_is most_is = record {
   leaves = subst (λ (v : Visits). HasLoaded alike loads faults old old (length v.digests) × Remembers (kept old) (kept old) v.digests) (sym none) (HasLoaded-none alike loads faults old (itself old), Remembers-none (kept old));
   answers = (ap rows_of state_is ∙ rows_of-empty ∙ sym (ap (λ (v : Visits). v.values) none), ap (λ (v : Visits). v.refusal) none, most_is);
@@ -64,7 +64,7 @@ from_none table most steps (row ∷ rows) none = absurd cc
 from_none table most steps [] none = let all : most ≡ most - 0 = omega arith in ap (λ (n : ℕ). visits_of table n steps) all
 
 -- the root is still to be visited
-pub at_root : {S : Type 0} (alike : S → S → Type 0) (loads faults : S → ℕ) (kept : S → Option Digests) (old : S) (table : Table) (top : Digest) (from : List ℕ) (most : ℕ) (walk : Walk) (pairs : Held) → ((a : S) → alike a a) → false ≡ pointwise nat_eq top.0 zero_digest → walk.path.items ≡ [] → walk.pending.items ≡ record { digest = top; front = 0; nibble = None; after_extension = false; bounded = true } ∷ [] → pairs.state ≡ empty → pairs.most ≡ most → IsListing alike loads faults kept old old table from (visits_of table most (listing_steps (seen table top.0) [] from)) most walk pairs
+pub at_root : {S : Type 0} (alike : S → S → Type 0) (loads faults : S → ℕ) (kept : S → Option Digests) (old : S) (table : Table) (top : Digest) (from : List ℕ) (most : ℕ) (walk : Walk) (pairs : PairMap) → ((a : S) → alike a a) → false ≡ pointwise nat_eq top.0 zero_digest → walk.path.items ≡ [] → walk.pending.items ≡ record { digest = top; prefix = 0; nibble = None; after_extension = false; bounded = true } ∷ [] → pairs.state ≡ empty → pairs.most ≡ most → IsListing alike loads faults kept old old table from (visits_of table most (listing_steps (seen table top.0) [] from)) most walk pairs
 unfolding steps_of
 at_root alike loads faults kept old table top from most walk pairs itself nonzero path_is pending_is state_is most_is =
     let rows : rows_of pairs.state ≡ [] = ap rows_of state_is ∙ rows_of-empty in
@@ -80,14 +80,14 @@ at_root alike loads faults kept old table top from most walk pairs itself nonzer
     }
   where
     start : Place
-    start = record { digest = top; front = 0; nibble = None; after_extension = false; bounded = true }
+    start = record { digest = top; prefix = 0; nibble = None; after_extension = false; bounded = true }
 
     ap₂_walk : [] ≡ walk.path.items → start ∷ [] ≡ walk.pending.items → IsWalk walk.path.items walk.pending.items
-    ap₂_walk p q = subst (λ (places : List Place). IsWalk walk.path.items places) q (subst (λ (path : List ℕ). IsWalk path (start ∷ [])) p (record { small = tt; stacked = (record { front = omega arith; deep = omega arith; small = tt }, tt, tt) }))
+    ap₂_walk p q = subst (λ (places : List Place). IsWalk walk.path.items places) q (subst (λ (path : List ℕ). IsWalk path (start ∷ [])) p (record { small = tt; stacked = (record { prefix = omega arith; deep = omega arith; small = tt }, tt, tt) }))
 
 -- ---- the end
 
-ended : {S : Type 0} (alike : S → S → Type 0) (loads faults : S → ℕ) (kept : S → Option Digests) (old now : S) (table : Table) (from : List ℕ) (visits : Visits) (most : ℕ) (walk : Walk) (pairs : Held) → IsListing alike loads faults kept old now table from visits most walk pairs → left_of table from most walk pairs ≡ no_visits → Answered alike loads faults kept old now visits most (Ok pairs)
+ended : {S : Type 0} (alike : S → S → Type 0) (loads faults : S → ℕ) (kept : S → Option Digests) (old now : S) (table : Table) (from : List ℕ) (visits : Visits) (most : ℕ) (walk : Walk) (pairs : PairMap) → IsListing alike loads faults kept old now table from visits most walk pairs → left_of table from most walk pairs ≡ no_visits → Answered alike loads faults kept old now visits most (Ok pairs)
 ended alike loads faults kept old now table from visits most walk pairs is none =
     let all : visits ≡ record { digests = is.digests; values = rows_of pairs.state; refusal = None } = is.all ∙ ap (after is.digests (rows_of pairs.state)) none ∙ ap₂ (λ (ds : List (List ℕ)) (rs : List Row). record { digests = ds; values = rs; refusal = None }) (append-nil is.digests) (append-nil (rows_of pairs.state)) in
     record {
@@ -96,7 +96,7 @@ ended alike loads faults kept old now table from visits most walk pairs is none 
     }
 
 -- no place is left
-pub all_visited : {S : Type 0} (alike : S → S → Type 0) (loads faults : S → ℕ) (kept : S → Option Digests) (old now : S) (table : Table) (from : List ℕ) (visits : Visits) (most : ℕ) (walk : Walk) (pairs : Held) → IsListing alike loads faults kept old now table from visits most walk pairs → walk.pending.items ≡ [] → Answered alike loads faults kept old now visits most (Ok pairs)
+pub all_visited : {S : Type 0} (alike : S → S → Type 0) (loads faults : S → ℕ) (kept : S → Option Digests) (old now : S) (table : Table) (from : List ℕ) (visits : Visits) (most : ℕ) (walk : Walk) (pairs : PairMap) → IsListing alike loads faults kept old now table from visits most walk pairs → walk.pending.items ≡ [] → Answered alike loads faults kept old now visits most (Ok pairs)
 unfolding steps_of visits_of
 all_visited alike loads faults kept old now table from visits most walk pairs is none =
     ended alike loads faults kept old now table from visits most walk pairs is (ap (λ (places : List Place). visits_of table (most - length (rows_of pairs.state)) (steps_of table from walk.path.items places)) none ∙ nothing_left (most - length (rows_of pairs.state)))
@@ -106,7 +106,7 @@ all_visited alike loads faults kept old now table from visits most walk pairs is
     nothing_left (suc n) = refl
 
 -- enough values were visited
-pub enough_visited : {S : Type 0} (alike : S → S → Type 0) (loads faults : S → ℕ) (kept : S → Option Digests) (old now : S) (table : Table) (from : List ℕ) (visits : Visits) (most : ℕ) (walk : Walk) (pairs : Held) → IsListing alike loads faults kept old now table from visits most walk pairs → most ≤ length (rows_of pairs.state) → Answered alike loads faults kept old now visits most (Ok pairs)
+pub enough_visited : {S : Type 0} (alike : S → S → Type 0) (loads faults : S → ℕ) (kept : S → Option Digests) (old now : S) (table : Table) (from : List ℕ) (visits : Visits) (most : ℕ) (walk : Walk) (pairs : PairMap) → IsListing alike loads faults kept old now table from visits most walk pairs → most ≤ length (rows_of pairs.state) → Answered alike loads faults kept old now visits most (Ok pairs)
 unfolding visits_of
 enough_visited alike loads faults kept old now table from visits most walk pairs is enough =
     let none : most - length (rows_of pairs.state) ≡ 0 = omega arith in
@@ -135,7 +135,7 @@ first-step table from before popped place pending_is path_is =
     ap₂ (λ (p : List ℕ) (places : List Place). steps_of table from p places) (sym path_is) pending_is ∙ steps_of-push table from popped.path.items popped.pending.items place
 
 -- at a place
-pub place-refused : {S : Type 0} (alike : S → S → Type 0) (loads faults : S → ℕ) (kept : S → Option Digests) (old mid new : S) (table : Table) (from : List ℕ) (visits : Visits) (most : ℕ) (before popped walk : Walk) (pairs : Held) (place : Place) (error : ListError) → ((a b c : S) → alike a b → alike b c → alike a c) → IsListing alike loads faults kept old mid table from visits most before pairs → length (rows_of pairs.state) < most → before.pending.items ≡ popped.pending.items ++ place ∷ [] → popped.path.items ≡ before.path.items → AnswersPlace table from popped walk place (Err error) → LeftByPlace {X = Option codec.ValueRef} alike loads faults kept mid new place.digest.0 (Err error) → Answered alike loads faults kept old new visits most (Err error)
+pub place-refused : {S : Type 0} (alike : S → S → Type 0) (loads faults : S → ℕ) (kept : S → Option Digests) (old mid new : S) (table : Table) (from : List ℕ) (visits : Visits) (most : ℕ) (before popped walk : Walk) (pairs : PairMap) (place : Place) (error : ListError) → ((a b c : S) → alike a b → alike b c → alike a c) → IsListing alike loads faults kept old mid table from visits most before pairs → length (rows_of pairs.state) < most → before.pending.items ≡ popped.pending.items ++ place ∷ [] → popped.path.items ≡ before.path.items → AnswersPlace table from popped walk place (Err error) → LeftByPlace {X = Option codec.ValueRef} alike loads faults kept mid new place.digest.0 (Err error) → Answered alike loads faults kept old new visits most (Err error)
 place-refused alike loads faults kept old mid new table from visits most before popped walk pairs place error onward is room pending_is path_is answer left = go error answer left
   where
     rows : List Row
@@ -172,7 +172,7 @@ other-value path text ref later other = go (length text == ref.length) refl
     go false e = refl
 
 -- at a value
-pub pair-refused : {S : Type 0} (alike : S → S → Type 0) (loads faults : S → ℕ) (kept : S → Option Digests) (old mid new : S) (table : Table) (from : List ℕ) (visits : Visits) (most : ℕ) (walk : Walk) (pairs collected : Held) (ref : codec.ValueRef) (error : ListError) → ((a b c : S) → alike a b → alike b c → alike a c) → IsBetween alike loads faults kept old mid table from visits most walk pairs (Some ref) → AnswersPair table walk.path.items ref pairs collected (Err error) → LeftByPlace {X = Unit {0}} alike loads faults kept mid new ref.digest.0 (Err error) → Answered alike loads faults kept old new visits most (Err error)
+pub pair-refused : {S : Type 0} (alike : S → S → Type 0) (loads faults : S → ℕ) (kept : S → Option Digests) (old mid new : S) (table : Table) (from : List ℕ) (visits : Visits) (most : ℕ) (walk : Walk) (pairs collected : PairMap) (ref : codec.ValueRef) (error : ListError) → ((a b c : S) → alike a b → alike b c → alike a c) → IsBetween alike loads faults kept old mid table from visits most walk pairs (Some ref) → AnswersPair table walk.path.items ref pairs collected (Err error) → LeftByPlace {X = Unit {0}} alike loads faults kept mid new ref.digest.0 (Err error) → Answered alike loads faults kept old new visits most (Err error)
 unfolding value_visit
 pair-refused alike loads faults kept old mid new table from visits most walk pairs collected ref error onward is answer left = go error answer left
   where
@@ -230,14 +230,14 @@ same_pairs (p ∷ ps) (q ∷ qs) e =
     let first : p ≡ q = λ i. (key i, held i) in
     ap₂ (λ (r : Pair) (rs : List Pair). r ∷ rs) first (same_pairs ps qs (later_rows e))
 
-pub list-state : (table : Table) (top from : List ℕ) (most : ℕ) (result : Result Held ListError) → AnswersListing (listing_visits table top from most) most result → (state : State) → Holds table state → IsState state → top ≡ root state → AnswersPairs (take most (filter (λ pair. reaches from pair.0) (entries state))) result
+pub list-state : (table : Table) (top from : List ℕ) (most : ℕ) (result : Result PairMap ListError) → AnswersListing (listing_visits table top from most) most result → (state : State) → Holds table state → IsState state → top ≡ root state → AnswersPairs (take most (filter (λ pair. reaches from pair.0) (entries state))) result
 unfolding rows_of
 list-state table top from most result answer state holds is top_is =
     let reads = reads-state table state from most holds is in
     let same : listing_visits table top from most ≡ listing_visits table (root state) from most = ap (λ (d : List ℕ). listing_visits table d from most) top_is in
     go result answer (ap (λ (v : Visits). v.values) same ∙ reads.values ∙ rows_from-pairs state from most) (ap (λ (v : Visits). v.refusal) same ∙ reads.refusal)
   where
-    go : (r : Result Held ListError) → AnswersListing (listing_visits table top from most) most r → (listing_visits table top from most).values ≡ rows_of_pairs (take most (filter (λ pair. reaches from pair.0) (entries state))) → (listing_visits table top from most).refusal ≡ None → AnswersPairs (take most (filter (λ pair. reaches from pair.0) (entries state))) r
+    go : (r : Result PairMap ListError) → AnswersListing (listing_visits table top from most) most r → (listing_visits table top from most).values ≡ rows_of_pairs (take most (filter (λ pair. reaches from pair.0) (entries state))) → (listing_visits table top from most).refusal ≡ None → AnswersPairs (take most (filter (λ pair. reaches from pair.0) (entries state))) r
     go (Ok pairs) a values none = same_pairs (entries pairs.state) (take most (filter (λ pair. reaches from pair.0) (entries state))) (a.0 ∙ values)
     go (Err (Missing digest)) a values none = none_some _ _ none a
     go (Err (Bad digest)) a values none = none_some _ _ none a

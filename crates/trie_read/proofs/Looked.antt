@@ -10,7 +10,7 @@ use Rattle.visit_model.specs.Steps.{Step, no_text, no_node, value}
 use Rattle.visit_model.specs.Steps as step
 use Rattle.visit_model.specs.Visits.{Visits, missing, bad, no_visits, refused, node_first, value_first, value_visit, visits_of}
 use Rattle.node_codec.specs.declared.value_ref.ValueRef as codec
-use Rattle.node_codec.specs.Shown.{value_of}
+use Rattle.node_codec.specs.Meanings.{value_of}
 use Rattle.text_store.specs.Loading.{Digests}
 use Rattle.text_store.specs.Visiting.{HasLoaded, Remembers}
 use Rattle.text_store.proofs.Visiting.{HasLoaded-then, Remembers-then}
@@ -33,7 +33,7 @@ visits-nodes table most (digest ∷ digests) steps = ap (node_first digest) (vis
 value-some : (path : List ℕ) (ref : ValueRef) (held : Option (List ℕ)) (after : Visits) → 0 < length (value_visit path ref held after).digests
 unfolding value_visit
 value-some path ref None after = omega arith
-value-some path ref (Some text) after = elim (length text == ref.size) as (λ b. 0 < length (if b then value_first ref.digest (path, text) after else refused ref.digest (bad ref.digest)).digests) [ true ↦ omega arith | false ↦ omega arith ]
+value-some path ref (Some text) after = elim (length text == ref.length) as (λ b. 0 < length (if b then value_first ref.digest (path, text) after else refused ref.digest (bad ref.digest)).digests) [ true ↦ omega arith | false ↦ omega arith ]
 
 pub visits-some : (table : Table) (most : ℕ) (first : Step) (further : List Step) → 0 < length (visits_of table (suc most) (first ∷ further)).digests
 unfolding visits_of

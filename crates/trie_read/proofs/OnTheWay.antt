@@ -9,7 +9,7 @@ use Rattle.visit_model.specs.Seen.{Seen, nothing, seen, seen_at, seen_node}
 use Rattle.visit_model.specs.Steps.{Step, no_text, no_node, value, value_steps, lookup_steps}
 use Rattle.visit_model.specs.Steps as step
 use Rattle.node_codec.specs.declared.value_ref.ValueRef as codec
-use Rattle.node_codec.specs.Shown.{value_of}
+use Rattle.node_codec.specs.Meanings.{value_of}
 use Rattle.text_store.specs.Loading.{Digests}
 use Rattle.text_store.specs.Visiting.{HasLoaded, Remembers}
 use Rattle.text_store.proofs.Visiting.{HasLoaded-none, Remembers-none, Remembers-then}
@@ -55,21 +55,21 @@ pub record Deeper (table : Table) (steps : List Step) (path : List ℕ) (digests
   pub reaches : Reaches table steps path digests digest deeper after_extension
   pub below : depth < deeper
 
-parts_of : (path front more : List ℕ) (depth deeper : ℕ) → depth ≤ length path → drop depth path ≡ front ++ more → deeper ≡ depth + length front → (take depth path ++ front ≡ take deeper path) × (more ≡ drop deeper path) × (deeper ≤ length path)
-parts_of path front more depth deeper deep parts is =
+parts_of : (path prefix more : List ℕ) (depth deeper : ℕ) → depth ≤ length path → drop depth path ≡ prefix ++ more → deeper ≡ depth + length prefix → (take depth path ++ prefix ≡ take deeper path) × (more ≡ drop deeper path) × (deeper ≤ length path)
+parts_of path prefix more depth deeper deep parts is =
     let behind : length (take depth path) ≡ depth = length-take-le depth path deep in
-    let width : length (take depth path ++ front) ≡ deeper = length-append (take depth path) front ∙ ap (λ (n : ℕ). n + length front) behind ∙ sym is in
-    let whole : path ≡ (take depth path ++ front) ++ more = sym (take-append-drop depth path) ∙ ap (λ (l : List ℕ). take depth path ++ l) parts ∙ sym (append_assoc (take depth path) front more) in
-    let front_is : take deeper path ≡ take depth path ++ front = ap (take deeper) whole ∙ take_at (take depth path ++ front) more deeper width in
-    let rest_is : drop deeper path ≡ more = ap (drop deeper) whole ∙ drop_at (take depth path ++ front) more deeper width in
-    let count : length path ≡ deeper + length more = ap length whole ∙ length-append (take depth path ++ front) more ∙ ap (λ (n : ℕ). n + length more) width in
-    (sym front_is, sym rest_is, omega arith)
+    let width : length (take depth path ++ prefix) ≡ deeper = length-append (take depth path) prefix ∙ ap (λ (n : ℕ). n + length prefix) behind ∙ sym is in
+    let whole : path ≡ (take depth path ++ prefix) ++ more = sym (take-append-drop depth path) ∙ ap (λ (l : List ℕ). take depth path ++ l) parts ∙ sym (append_assoc (take depth path) prefix more) in
+    let prefix_is : take deeper path ≡ take depth path ++ prefix = ap (take deeper) whole ∙ take_at (take depth path ++ prefix) more deeper width in
+    let rest_is : drop deeper path ≡ more = ap (drop deeper) whole ∙ drop_at (take depth path ++ prefix) more deeper width in
+    let count : length path ≡ deeper + length more = ap length whole ∙ length-append (take depth path ++ prefix) more ∙ ap (λ (n : ℕ). n + length more) width in
+    (sym prefix_is, sym rest_is, omega arith)
 
 pub went_on : (table : Table) (steps : List Step) (path : List ℕ) (digests : List (List ℕ)) (digest : List ℕ) (depth : ℕ) (after_extension : Bool) (next : Next) (below : List ℕ) (deeper : ℕ) (extended : Bool) → Reaches table steps path digests digest depth after_extension → IsNext table (seen_at table depth after_extension digest) digest depth after_extension (drop depth path) next → leads_seen next ≡ child below deeper extended → Deeper table steps path (digests ++ digest ∷ []) below depth deeper extended
 went_on table steps path digests digest depth after_extension next below deeper extended reached n is =
     let on : GoesOn (seen_at table) depth digest n.usage (take depth path) (drop depth path) n.node below deeper extended = subst (Leading (seen_at table) depth digest n.usage (take depth path) (drop depth path) n.node) is (lead table path digest depth after_extension next n) in
-    let parts = parts_of path on.front on.more depth deeper reached.deep on.parts on.depth_is in
-    let all : steps ≡ map step.node (digests ++ digest ∷ []) ++ lookup_steps (seen_at table deeper extended below) (take depth path ++ on.front) on.more =
+    let parts = parts_of path on.prefix on.more depth deeper reached.deep on.parts on.depth_is in
+    let all : steps ≡ map step.node (digests ++ digest ∷ []) ++ lookup_steps (seen_at table deeper extended below) (take depth path ++ on.prefix) on.more =
     reached.steps_are ∙ ap (λ (seen : Seen). map step.node digests ++ lookup_steps seen (take depth path) (drop depth path)) n.seen ∙ ap (λ (l : List Step). map step.node digests ++ l) on.steps ∙ nodes-more digests digest _ in
     let some = on.some in
     let depth_is = on.depth_is in

@@ -26,21 +26,21 @@ small-append : (p q : List ℕ) → AreNibbles p → AreNibbles q → AreNibbles
 small-append [] q small more = more
 small-append (x ∷ p) q small more = (small.0, small-append p q small.1 more)
 
-front_length : (path : List ℕ) (place : Place) → IsPlace (length path) place → length (take place.front path) ≡ place.front
-front_length path place is = length-take-le place.front path is.front
+prefix_length : (path : List ℕ) (place : Place) → IsPlace (length path) place → length (take place.prefix path) ≡ place.prefix
+prefix_length path place is = length-take-le place.prefix path is.prefix
 
 pub before-depth : (path : List ℕ) (place : Place) → IsPlace (length path) place → length (place_before path place) ≡ place_depth place
-before-depth path place is = length-append (take place.front path) (at_most_one place.nibble) ∙ ap (λ (n : ℕ). n + length (at_most_one place.nibble)) (front_length path place is)
+before-depth path place is = length-append (take place.prefix path) (at_most_one place.nibble) ∙ ap (λ (n : ℕ). n + length (at_most_one place.nibble)) (prefix_length path place is)
 
 -- the walk at the place
-pub walk-before : (path : List ℕ) (pending : List Place) (place : Place) → IsPlace (length path) place → IsWalk path pending → Stacked place.front pending → IsWalk (place_before path place) pending
+pub walk-before : (path : List ℕ) (pending : List Place) (place : Place) → IsPlace (length path) place → IsWalk path pending → Stacked place.prefix pending → IsWalk (place_before path place) pending
 walk-before path pending place is walk stacked = record {
-  small = small-append (take place.front path) (at_most_one place.nibble) (small-take place.front path walk.small) is.small;
-  stacked = Stacked-widen place.front (length (place_before path place)) pending (let depth = before-depth path place is in omega arith) stacked;
+  small = small-append (take place.prefix path) (at_most_one place.nibble) (small-take place.prefix path walk.small) is.small;
+  stacked = Stacked-widen place.prefix (length (place_before path place)) pending (let depth = before-depth path place is in omega arith) stacked;
 }
 
-before-agrees : (path : List ℕ) (place : Place) → IsPlace (length path) place → take place.front path ≡ take place.front (place_before path place)
-before-agrees path place is = sym (take_at (take place.front path) (at_most_one place.nibble) place.front (front_length path place is))
+before-agrees : (path : List ℕ) (place : Place) → IsPlace (length path) place → take place.prefix path ≡ take place.prefix (place_before path place)
+before-agrees path place is = sym (take_at (take place.prefix path) (at_most_one place.nibble) place.prefix (prefix_length path place is))
 
 -- ---- what was visited
 
@@ -60,7 +60,7 @@ at_bound from place = go place.bounded
     go true = inl refl
     go false = inr refl
 
-pub place-passed : (table : Table) (from text : List ℕ) (old mid new : Walk) (place : Place) (found : Option codec.ValueRef) → IsPlace (length old.path.items) place → Stacked place.front old.pending.items → mid.path.items ≡ place_before old.path.items place → mid.pending.items ≡ old.pending.items → Some text ≡ get table place.digest.0 → Opened text from mid new place found → Passed table from old new place found
+pub place-passed : (table : Table) (from text : List ℕ) (old mid new : Walk) (place : Place) (found : Option codec.ValueRef) → IsPlace (length old.path.items) place → Stacked place.prefix old.pending.items → mid.path.items ≡ place_before old.path.items place → mid.pending.items ≡ old.pending.items → Some text ≡ get table place.digest.0 → Opened text from mid new place found → Passed table from old new place found
 unfolding seen_text seen_record
 place-passed table from text old mid new place found is stacked path_is pending_is held opened =
     let depth : length mid.path.items ≡ place_depth place = ap length path_is ∙ before-depth old.path.items place is in
@@ -70,7 +70,7 @@ place-passed table from text old mid new place found is stacked path_is pending_
     record {
       steps =
           ap₂ (λ (s : Seen) (l : List Step). listing_steps s (place_before old.path.items place) (place_bound from place) ++ l) seen
-          (steps_of-same table from old.path.items (place_before old.path.items place) place.front old.pending.items stacked (before-agrees old.path.items place is))
+          (steps_of-same table from old.path.items (place_before old.path.items place) place.prefix old.pending.items stacked (before-agrees old.path.items place is))
           ∙ (λ i. listing_steps (seen_node (seen_at table) (sym depth i) place.digest.0 opened.node opened.usage) (sym path_is i) (place_bound from place) ++ steps_of table from (sym path_is i) (sym pending_is i))
           ∙ opened.enters.steps table place.digest.0 from opened.usage bound;
       walk = opened.enters.walk;

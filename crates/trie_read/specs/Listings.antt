@@ -14,11 +14,11 @@ use Rattle.visit_model.specs.Steps.{node, no_text, no_node, value_steps}
 use Rattle.visit_model.specs.Visits as visiting
 use Rattle.visit_model.specs.Visits.{Visits}
 use Rattle.base_core.specs.Faults.{Rose}
-use Rattle.base_core.specs.Held.{Held, laid}
+use Rattle.base_core.specs.PairMaps.{PairMap, laid}
 use Rattle.text_store.specs.Loading.{Digests}
 use Rattle.text_store.specs.Visiting.{HasLoaded, Remembers}
 use Rattle.node_codec.specs.declared.value_ref.ValueRef as codec
-use Rattle.node_codec.specs.Shown.{value_of}
+use Rattle.node_codec.specs.Meanings.{value_of}
 use Rattle.trie_read.specs.declared.errors.ReadError.{ReadError}
 use Rattle.trie_read.specs.declared.errors.ReadError.TheVariants as read
 use Rattle.trie_read.specs.declared.errors.ListError.{ListError}
@@ -76,23 +76,23 @@ as_listed (read.Bad digest) = Bad digest
 as_listed read.Fault = Fault
 
 -- the pair of the key with these nibbles was laid over
-pub record LaysOver (path value : List ℕ) (old new : Held) : Type 0 where
+pub record LaysOver (path value : List ℕ) (old new : PairMap) : Type 0 where
   pub key : List ℕ
   pub nibbles_are : nibbles key ≡ path
   pub laid_is : new ≡ laid old key value
 
-abbrev pub Collects : {E : Type 0} → (path value : List ℕ) → (old new : Held) → Result (Unit {0}) E → Type 0
+abbrev pub Collects : {E : Type 0} → (path value : List ℕ) → (old new : PairMap) → Result (Unit {0}) E → Type 0
 Collects path value old new (Ok done) = LaysOver path value old new
 Collects path value old new (Err error) = ⊤
 
 -- what loading a value and laying its pair over answers
-pub record Added (table : Table) (path : List ℕ) (ref : codec.ValueRef) (old new : Held) : Type 0 where
+pub record Added (table : Table) (path : List ℕ) (ref : codec.ValueRef) (old new : PairMap) : Type 0 where
   pub text : List ℕ
   pub held : get table ref.digest.0 ≡ Some text
   pub length_is : length text ≡ ref.length
   pub lays : LaysOver path text old new
 
-abbrev pub AnswersPair : Table → List ℕ → codec.ValueRef → (old new : Held) → Result (Unit {0}) ListError → Type 0
+abbrev pub AnswersPair : Table → List ℕ → codec.ValueRef → (old new : PairMap) → Result (Unit {0}) ListError → Type 0
 AnswersPair table path ref old new (Ok done) = Added table path ref old new
 AnswersPair table path ref old new (Err (Missing named)) = (named ≡ ref.digest) × (get table ref.digest.0 ≡ None)
 AnswersPair table path ref old new (Err (Bad named)) = (named ≡ ref.digest) × IsSomeAnd (get table ref.digest.0) (λ text. length text ≢ ref.length)
@@ -102,7 +102,7 @@ AnswersPair table path ref old new (Err NoMemory) = ⊤
 -- ---- the whole listing
 
 -- What a listing answers, by its visits: the values visited, as pairs, or the test that failed. Where the store failed or memory was wanted, nothing more is told.
-abbrev pub AnswersListing : Visits → ℕ → Result Held ListError → Type 0
+abbrev pub AnswersListing : Visits → ℕ → Result PairMap ListError → Type 0
 AnswersListing visits most (Ok pairs) = (rows_of pairs.state ≡ visits.values) × (visits.refusal ≡ None) × (pairs.most ≡ most)
 AnswersListing visits most (Err (Missing digest)) = visits.refusal ≡ Some (visiting.missing digest.0)
 AnswersListing visits most (Err (Bad digest)) = visits.refusal ≡ Some (visiting.bad digest.0)
@@ -110,7 +110,7 @@ AnswersListing visits most (Err Fault) = ⊤
 AnswersListing visits most (Err NoMemory) = ⊤
 
 -- pairs of a state, or a failure of the store, or want of memory
-abbrev pub AnswersPairs : List (List ℕ × List ℕ) → Result Held ListError → Type 0
+abbrev pub AnswersPairs : List (List ℕ × List ℕ) → Result PairMap ListError → Type 0
 AnswersPairs pairs (Ok found) = entries found.state ≡ pairs
 AnswersPairs pairs (Err Fault) = ⊤
 AnswersPairs pairs (Err NoMemory) = ⊤

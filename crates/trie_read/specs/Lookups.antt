@@ -18,7 +18,7 @@ use Rattle.visit_model.specs.Visits as visiting
 use Rattle.visit_model.specs.Visits.{Visits}
 use Rattle.visit_model.specs.Bounds.{at_most_one}
 use Rattle.node_codec.specs.declared.value_ref.ValueRef as codec
-use Rattle.node_codec.specs.Shown.{value_of}
+use Rattle.node_codec.specs.Meanings.{value_of}
 use Rattle.text_store.specs.Loading.{Digests}
 use Rattle.trie_read.specs.Stores.{VisitedAll}
 use Rattle.trie_read.specs.declared.errors.ReadError.{ReadError}

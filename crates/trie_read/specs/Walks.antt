@@ -7,11 +7,11 @@ use Rattle.byte_model.specs.PackedPath.{longest_path}
 use Rattle.byte_model.specs.Node.{Node}
 use Rattle.record_model.specs.Fits.{fits_at}
 use Rattle.trie_model.specs.Root.{Table}
-use Rattle.visit_model.specs.Seen.{seen_at, seen_kid, seen_node}
+use Rattle.visit_model.specs.Seen.{seen_at, seen_child, seen_node}
 use Rattle.visit_model.specs.Steps.{Step, node, value_steps, behind, bound_behind, listing_steps}
 use Rattle.visit_model.specs.Bounds.{at_most_one}
 use Rattle.node_codec.specs.declared.value_ref.ValueRef as codec
-use Rattle.node_codec.specs.Shown.{value_of}
+use Rattle.node_codec.specs.Meanings.{value_of}
 use Rattle.trie_read.specs.declared.walk.Place.{Place}
 use Rattle.trie_read.specs.declared.walk.Walk.{Walk}
 use Rattle.trie_read.specs.declared.walk.Side.{Side}
@@ -21,10 +21,10 @@ use Rattle.trie_read.specs.declared.walk.Side.TheVariants.{Below, Within, Above}
 
 -- the nibbles before a place, by the walk's path, and how many they are
 abbrev pub place_before : List ℕ → Place → List ℕ
-place_before path place = take place.front path ++ at_most_one place.nibble
+place_before path place = take place.prefix path ++ at_most_one place.nibble
 
 abbrev pub place_depth : Place → ℕ
-place_depth place = place.front + length (at_most_one place.nibble)
+place_depth place = place.prefix + length (at_most_one place.nibble)
 
 -- what is left of the bound there
 abbrev pub place_bound : List ℕ → Place → List ℕ
@@ -40,14 +40,14 @@ steps_of table from path (place ∷ places) = steps_of table from path places ++
 
 -- It shares at most so many nibbles with the path, and is not too deep for anything to fit.
 pub record IsPlace (within : ℕ) (place : Place) : Type 0 where
-  pub front : place.front ≤ within
+  pub prefix : place.prefix ≤ within
   pub deep : place_depth place ≤ longest_path
   pub small : AreNibbles (at_most_one place.nibble)
 
 -- each place shares no more with the path than those after it
 abbrev pub Stacked : ℕ → List Place → Type 0
 Stacked within [] = ⊤
-Stacked within (place ∷ places) = IsPlace within place × AllByRecursion (λ other. place.front ≤ other.front) places × Stacked within places
+Stacked within (place ∷ places) = IsPlace within place × AllByRecursion (λ other. place.prefix ≤ other.prefix) places × Stacked within places
 
 pub record IsWalk (path : List ℕ) (pending : List Place) : Type 0 where
   pub small : AreNibbles path
@@ -56,9 +56,9 @@ pub record IsWalk (path : List ℕ) (pending : List Place) : Type 0 where
 -- ---- bounds
 
 abbrev pub IsSide : List ℕ → List ℕ → Side → Type 0
-IsSide front bound Below = bound_behind front bound ≡ None
-IsSide front bound Within = (bound_behind front bound ≡ Some (drop (length front) bound)) × (length front < length bound)
-IsSide front bound Above = bound_behind front bound ≡ Some []
+IsSide prefix bound Below = bound_behind prefix bound ≡ None
+IsSide prefix bound Within = (bound_behind prefix bound ≡ Some (drop (length prefix) bound)) × (length prefix < length bound)
+IsSide prefix bound Above = bound_behind prefix bound ≡ Some []
 
 abbrev pub IsChildBound : ℕ → List ℕ → Option Bool → Type 0
 IsChildBound nibble bound None = bound_behind (nibble ∷ []) bound ≡ None
@@ -75,8 +75,8 @@ abbrev pub FitsSomewhere : ℕ → Node → Type 0
 FitsSomewhere depth n = (after_extension : Bool) × (fits_at depth after_extension n ≡ true)
 
 -- the steps below the child at a nibble
-abbrev pub kid_steps : Table → List ℕ → List ℕ → (ℕ → Option (List ℕ)) → ℕ → List Step
-kid_steps table path bound kids x = behind (listing_steps (seen_kid (seen_at table (length path + 1) false) (kids x)) (path ++ x ∷ [])) (bound_behind (x ∷ []) bound)
+abbrev pub child_steps : Table → List ℕ → List ℕ → (ℕ → Option (List ℕ)) → ℕ → List Step
+child_steps table path bound kids x = behind (listing_steps (seen_child (seen_at table (length path + 1) false) (kids x)) (path ++ x ∷ [])) (bound_behind (x ∷ []) bound)
 
 -- Entering a node: its steps are the node's own, then its value's, and then those of the places that were taken up.
 pub record Enters (old new : Walk) (n : Node) (bound : List ℕ) (found : Option codec.ValueRef) : Type 0 where
@@ -86,13 +86,13 @@ pub record Enters (old new : Walk) (n : Node) (bound : List ℕ) (found : Option
   pub walk : IsWalk new.path.items new.pending.items
   pub whole : IfSome found (λ _. (length new.path.items % 2 ≡ 0) × (length new.path.items ≤ longest_path))
 
-pub record KidPlace (kids : ℕ → Option (List ℕ)) (nibble depth : ℕ) (bound : List ℕ) (place : Place) : Type 0 where
-  pub front : place.front ≡ depth
+pub record ChildPlace (kids : ℕ → Option (List ℕ)) (nibble depth : ℕ) (bound : List ℕ) (place : Place) : Type 0 where
+  pub prefix : place.prefix ≡ depth
   pub depth_is : place_depth place ≡ depth + 1
   pub small : AreNibbles (at_most_one place.nibble)
-  pub steps : (table : Table) (from path : List ℕ) → length path ≡ depth → IsBound from depth bound → kid_steps table path bound kids nibble ≡ steps_at table from path place
+  pub steps : (table : Table) (from path : List ℕ) → length path ≡ depth → IsBound from depth bound → child_steps table path bound kids nibble ≡ steps_at table from path place
 
 -- The child at a nibble, as a place below a path of so many nibbles: its steps are those below the child, and there are none where there is no place.
-abbrev pub IsKidPlace : (ℕ → Option (List ℕ)) → ℕ → ℕ → List ℕ → Option Place → Type 0
-IsKidPlace kids nibble depth bound None = (table : Table) (path : List ℕ) → kid_steps table path bound kids nibble ≡ []
-IsKidPlace kids nibble depth bound (Some place) = KidPlace kids nibble depth bound place
+abbrev pub IsChildPlace : (ℕ → Option (List ℕ)) → ℕ → ℕ → List ℕ → Option Place → Type 0
+IsChildPlace kids nibble depth bound None = (table : Table) (path : List ℕ) → child_steps table path bound kids nibble ≡ []
+IsChildPlace kids nibble depth bound (Some place) = ChildPlace kids nibble depth bound place

@@ -3,7 +3,7 @@ ghost use Rattle.std.specs.Cmp.Lexicographic.{pointwise};
 ghost use Rattle.byte_model.specs.Nibbles.{nibbles};
 ghost use Rattle.trie_model.specs.State.{longest_key};
 ghost use Rattle.trie_model.specs.Tree.{rest_behind};
-ghost use Rattle.node_codec.specs.Views.{node_seen};
+ghost use Rattle.node_codec.specs.Views.{node_viewed};
 ghost use Rattle.trie_read.specs.Lookups.{leads_seen, leads};
 
 use base_core::Digest;
@@ -30,7 +30,7 @@ pub(crate) enum Next {
 pub(crate) fn follow(node: &NodeView<'_>, depth: u64, key: &[u8]) -> Next
     requires depth { depth ≤ length (nibbles key.now) }
     requires short { length key.now ≤ longest_key }
-    ensures { leads_seen result ≡ leads depth (drop depth (nibbles key.now)) (node_seen node.now) }
+    ensures { leads_seen result ≡ leads depth (drop depth (nibbles key.now)) (node_viewed node.now) }
 {
     let rest = Nibbles::new(key).rest(depth);
     match node {
@@ -55,7 +55,7 @@ pub(crate) fn follow(node: &NodeView<'_>, depth: u64, key: &[u8]) -> Next
             }
         }
         NodeView::Extension { path, child } => {
-            if is_front(path, &rest) {
+            if is_prefix(path, &rest) {
                 Next::Child {
                     digest: *child,
                     depth: depth + path.len(),
@@ -77,8 +77,8 @@ fn is_rest(path: &Packed<'_>, rest: &Nibbles<'_>) -> bool
 }
 
 /// Whether what is left of a key begins with a path.
-fn is_front(path: &Packed<'_>, rest: &Nibbles<'_>) -> bool
-    ensures front { result ≡ is_some (rest_behind path.now rest.now) }
+fn is_prefix(path: &Packed<'_>, rest: &Nibbles<'_>) -> bool
+    ensures prefix { result ≡ is_some (rest_behind path.now rest.now) }
     ensures within { IsTrue result → length path.now ≤ length rest.now }
 {
     path.nibbles().common(rest) == path.len()

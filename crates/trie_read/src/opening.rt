@@ -23,7 +23,7 @@ pub(crate) fn visit_place<T: Texts>(
 ) -> Result<Option<ValueRef>, ListError>
     requires place { IsPlace (length walk.old.path.items) place.now }
     requires walk { IsWalk walk.old.path.items walk.old.pending.items }
-    requires stacked { Stacked place.now.front walk.old.pending.items }
+    requires stacked { Stacked place.now.prefix walk.old.pending.items }
     ensures answer { AnswersPlace (T.texts store.old) (nibbles from.now) walk.old walk.new place.now result }
     ensures left { LeftByPlace T.alike T.load_count T.faults T.kept store.old store.new place.now.digest.0 result }
 {

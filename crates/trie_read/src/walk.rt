@@ -6,23 +6,23 @@ ghost use Rattle.byte_model.specs.PackedPath.{longest_path};
 ghost use Rattle.byte_model.specs.Node.{leaf, branch, extension};
 ghost use Rattle.trie_model.specs.Root.{Table};
 ghost use Rattle.visit_model.specs.Steps.{bound_behind};
-ghost use Rattle.node_codec.specs.Children.{kids_seen};
-ghost use Rattle.node_codec.specs.Shown.{value_of};
-ghost use Rattle.node_codec.specs.Views.{node_seen};
-ghost use Rattle.trie_read.specs.Walks.{IsSide, IsChildBound, IsBound, IsWalk, Stacked, FitsSomewhere, Enters, IsKidPlace, kid_steps, steps_of, place_before};
+ghost use Rattle.node_codec.specs.Children.{children_viewed};
+ghost use Rattle.node_codec.specs.Meanings.{value_of};
+ghost use Rattle.node_codec.specs.Views.{node_viewed};
+ghost use Rattle.trie_read.specs.Walks.{IsSide, IsChildBound, IsBound, IsWalk, Stacked, FitsSomewhere, Enters, IsChildPlace, child_steps, steps_of, place_before};
 
 use base_core::Digest;
 use nibble_keys::{Nibbles, Packed};
 use node_codec::{KidsView, NodeView, ValueRef};
 use std::alloc::{AllocError, Global};
 
-/// A place that is still to be visited. Its path is a front of the walk's, and one nibble more
+/// A place that is still to be visited. Its path is a prefix of the walk's, and one nibble more
 /// below a branch.
 #[derive(Clone, Copy, Debug)]
 pub(crate) struct Place {
     pub(crate) digest: Digest,
     /// How many nibbles it shares with the walk's path.
-    pub(crate) front: usize,
+    pub(crate) prefix: usize,
     pub(crate) nibble: Option<u8>,
     pub(crate) after_extension: bool,
     /// Keys below it can be below the first key that is asked for.
@@ -41,12 +41,12 @@ impl Walk {
     /// At a root, which is still to be visited.
     pub(crate) fn new(alloc: Global, root: &Digest) -> Result<Walk, AllocError>
         ensures path { IfOk result (λ walk. walk.path.items ≡ []) }
-        ensures pending { IfOk result (λ walk. walk.pending.items ≡ record { digest = root.now; front = 0; nibble = None; after_extension = false; bounded = true } ∷ []) }
+        ensures pending { IfOk result (λ walk. walk.pending.items ≡ record { digest = root.now; prefix = 0; nibble = None; after_extension = false; bounded = true } ∷ []) }
     {
         let mut pending = Vec::new(alloc);
         pending.push(Place {
             digest: *root,
-            front: 0,
+            prefix: 0,
             nibble: None,
             after_extension: false,
             bounded: true,
@@ -59,11 +59,11 @@ impl Walk {
 
     /// Makes the path that of a place.
     pub(crate) fn go_to(&mut self, place: &Place) -> Result<(), AllocError>
-        requires { place.now.front ≤ length self.old.path.items }
+        requires { place.now.prefix ≤ length self.old.path.items }
         ensures path { OnOk result (self.new.path.items ≡ place_before self.old.path.items place.now) }
         ensures pending { self.new.pending.items ≡ self.old.pending.items }
     {
-        self.path.truncate(place.front);
+        self.path.truncate(place.prefix);
         if let Some(nibble) = place.nibble {
             self.path.push(nibble)?;
         }
@@ -77,9 +77,9 @@ impl Walk {
         node: &NodeView<'_>,
         bound: &Nibbles<'_>,
     ) -> Result<Option<ValueRef>, AllocError>
-        requires fits { FitsSomewhere (length self.old.path.items) (node_seen node.now) }
+        requires fits { FitsSomewhere (length self.old.path.items) (node_viewed node.now) }
         requires walk { IsWalk self.old.path.items self.old.pending.items }
-        ensures { IfOk result (Enters self.old self.new (node_seen node.now) bound.now) }
+        ensures { IfOk result (Enters self.old self.new (node_viewed node.now) bound.now) }
     {
         match node {
             NodeView::Leaf { path, value } => self.enter_leaf(path, value, bound),
@@ -117,11 +117,11 @@ impl Walk {
         kids: &KidsView<'_>,
         bound: &Nibbles<'_>,
     ) -> Result<Option<ValueRef>, AllocError>
-        requires fits { FitsSomewhere (length self.old.path.items) (branch (option_map value_of value.now) (kids_seen kids.now)) }
+        requires fits { FitsSomewhere (length self.old.path.items) (branch (option_map value_of value.now) (children_viewed kids.now)) }
         requires walk { IsWalk self.old.path.items self.old.pending.items }
-        ensures { IfOk result (Enters self.old self.new (branch (option_map value_of value.now) (kids_seen kids.now)) bound.now) }
+        ensures { IfOk result (Enters self.old self.new (branch (option_map value_of value.now) (children_viewed kids.now)) bound.now) }
     {
-        push_kids(&mut self.pending, kids, self.path.len(), bound)?;
+        push_children(&mut self.pending, kids, self.path.len(), bound)?;
         if bound.len() == 0 {
             Ok(*value)
         } else {
@@ -155,13 +155,13 @@ impl Walk {
     ) -> Result<(), AllocError>
         ensures path { OnOk result (self.new.path.items ≡ self.old.path.items ++ path.now) }
         ensures small { OnOk result (AreNibbles self.old.path.items → AreNibbles self.new.path.items) }
-        ensures pending { OnOk result (self.new.pending.items ≡ self.old.pending.items ++ record { digest = child.now; front = length self.new.path.items; nibble = None; after_extension = true; bounded = bounded } ∷ []) }
+        ensures pending { OnOk result (self.new.pending.items ≡ self.old.pending.items ++ record { digest = child.now; prefix = length self.new.path.items; nibble = None; after_extension = true; bounded = bounded } ∷ []) }
     {
         extend(&mut self.path, path)?;
-        let front = self.path.len();
+        let prefix = self.path.len();
         self.pending.push(Place {
             digest: *child,
-            front,
+            prefix,
             nibble: None,
             after_extension: true,
             bounded,
@@ -170,26 +170,26 @@ impl Walk {
     }
 }
 
-/// Where the keys with a front stand to a lower bound.
+/// Where the keys with a prefix stand to a lower bound.
 #[derive(Clone, Copy, Debug, PartialEq, Eq)]
 pub(crate) enum Side {
     /// All are below it.
     Below,
-    /// The bound has the front and goes on.
+    /// The bound has the prefix and goes on.
     Within,
     /// None is below it.
     Above,
 }
 
-fn side_of(front: &Nibbles<'_>, bound: &Nibbles<'_>) -> Side
-    ensures { IsSide front.now bound.now result }
+fn side_of(prefix: &Nibbles<'_>, bound: &Nibbles<'_>) -> Side
+    ensures { IsSide prefix.now bound.now result }
 {
-    let shared = front.common(bound);
+    let shared = prefix.common(bound);
     if shared == bound.len() {
         Side::Above
-    } else if shared == front.len() {
+    } else if shared == prefix.len() {
         Side::Within
-    } else if front.at(shared) < bound.at(shared) {
+    } else if prefix.at(shared) < bound.at(shared) {
         Side::Below
     } else {
         Side::Above
@@ -225,20 +225,20 @@ fn extend(nibbles: &mut Vec<u8>, path: &Packed<'_>) -> Result<(), AllocError>
 }
 
 /// Takes up the children of a branch whose keys can reach the bound, the last one first.
-fn push_kids(
+fn push_children(
     pending: &mut Vec<Place>,
     kids: &KidsView<'_>,
     depth: usize,
     bound: &Nibbles<'_>,
 ) -> Result<(), AllocError>
     ensures steps { OnOk result ((table : Table) (from path : List ℕ) → length path ≡ depth → IsBound from depth bound.now →
-        joined_below (kid_steps table path bound.now (kids_seen kids.now)) 16 ++ steps_of table from path pending.old.items ≡ steps_of table from path pending.new.items) }
+        joined_below (child_steps table path bound.now (children_viewed kids.now)) 16 ++ steps_of table from path pending.old.items ≡ steps_of table from path pending.new.items) }
     ensures stacked { OnOk result (depth < longest_path → Stacked depth pending.old.items → Stacked depth pending.new.items) }
 {
     let mut nibble = 16;
     while nibble > 0 {
         nibble -= 1;
-        if let Some(place) = kid_place(kids, nibble, depth, bound) {
+        if let Some(place) = child_place(kids, nibble, depth, bound) {
             pending.push(place)?;
         }
     }
@@ -246,9 +246,9 @@ fn push_kids(
 }
 
 /// The place of the child at a nibble, if there is one whose keys can reach the bound.
-fn kid_place(kids: &KidsView<'_>, nibble: u8, depth: usize, bound: &Nibbles<'_>) -> Option<Place>
+fn child_place(kids: &KidsView<'_>, nibble: u8, depth: usize, bound: &Nibbles<'_>) -> Option<Place>
     requires { nibble < 16 }
-    ensures { IsKidPlace (kids_seen kids.now) nibble depth bound.now result }
+    ensures { IsChildPlace (children_viewed kids.now) nibble depth bound.now result }
 {
     match kids.get(nibble) {
         None => None,
@@ -256,7 +256,7 @@ fn kid_place(kids: &KidsView<'_>, nibble: u8, depth: usize, bound: &Nibbles<'_>)
             None => None,
             Some(bounded) => Some(Place {
                 digest,
-                front: depth,
+                prefix: depth,
                 nibble: Some(nibble),
                 after_extension: false,
                 bounded,

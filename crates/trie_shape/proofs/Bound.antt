@@ -5,12 +5,12 @@ use Rattle.byte_model.specs.PackedPath.{two_to_a_byte, packed_behind, packed, lo
 use Rattle.byte_model.specs.Below.{sum_below}
 use Rattle.byte_model.specs.Node.{longest_value}
 use Rattle.trie_model.specs.State.{Row}
-use Rattle.trie_model.specs.Tree.{Tree, nothing, leaf, branch, extension, rest_behind, below, ends_here, common_front, tree_of}
+use Rattle.trie_model.specs.Tree.{Tree, nothing, leaf, branch, extension, rest_behind, below, ends_here, common_prefix, tree_of}
 use Rattle.trie_model.specs.Texts.{top_cost, usage}
 use Rattle.std.proofs.lemmas.List.{length-append}
 use Rattle.std.proofs.lemmas.Bool.Decides.{nat_tests}
 use Rattle.trie_model.proofs.Joined.{sum_below-agree}
-use Rattle.trie_model.proofs.Rests.{equal_of_test, rest_behind-front, front_and_rest, common_front-all, AllHaveFront}
+use Rattle.trie_model.proofs.Rests.{equal_of_test, rest_behind-prefix, prefix_and_rest, common_prefix-all, AllHavePrefix}
 use Rattle.trie_model.proofs.Trees.{tree_of-nil, tree_of-one, tree_of-forks, tree_of-shares, by_cases}
 
 -- what one nibble, and one place, may cost at most
@@ -70,41 +70,41 @@ weight (row ∷ rows) = suc (length row.0) + weight rows
 abbrev pub AllFit : List Row → Type 0
 AllFit rows = AllByRecursion (λ row. (length row.0 ≤ longest_path) × (length row.1 ≤ longest_value)) rows
 
-shorter : (front path rest : List ℕ) → rest_behind front path ≡ Some rest → length rest ≤ length path
-shorter front path rest e = let whole = ap length (front_and_rest front path rest e) ∙ length-append front rest in omega arith
+shorter : (prefix path rest : List ℕ) → rest_behind prefix path ≡ Some rest → length rest ≤ length path
+shorter prefix path rest e = let whole = ap length (prefix_and_rest prefix path rest e) ∙ length-append prefix rest in omega arith
 
-fit-below : (front : List ℕ) (rows : List Row) → AllFit rows → AllFit (below front rows)
+fit-below : (prefix : List ℕ) (rows : List Row) → AllFit rows → AllFit (below prefix rows)
 unfolding below
-fit-below front [] h = tt
-fit-below front (row ∷ rows) h =
-    let further = fit-below front rows h.1 in
-    elim (rest_behind front row.0) as (λ r. rest_behind front row.0 ≡ r → AllFit (cons_option (option_map (λ rest. (rest, row.1)) r) (below front rows))) [
+fit-below prefix [] h = tt
+fit-below prefix (row ∷ rows) h =
+    let further = fit-below prefix rows h.1 in
+    elim (rest_behind prefix row.0) as (λ r. rest_behind prefix row.0 ≡ r → AllFit (cons_option (option_map (λ rest. (rest, row.1)) r) (below prefix rows))) [
       | None ↦ λ e. further
-      | Some rest ↦ λ e. ((let s = shorter front row.0 rest e in let k = h.0.0 in omega arith, h.0.1), further)
+      | Some rest ↦ λ e. ((let s = shorter prefix row.0 rest e in let k = h.0.0 in omega arith, h.0.1), further)
     ] refl
 
-weight-behind : (x : ℕ) (front : List ℕ) (rows : List Row) → AllHaveFront (x ∷ front) rows → weight (below (x ∷ front) rows) + length rows ≤ weight rows
+weight-behind : (x : ℕ) (prefix : List ℕ) (rows : List Row) → AllHavePrefix (x ∷ prefix) rows → weight (below (x ∷ prefix) rows) + length rows ≤ weight rows
 unfolding weight below
-weight-behind x front [] h = omega arith
-weight-behind x front (row ∷ rows) h =
-    let e : row.0 ≡ x ∷ front ++ h.0.0 = h.0.1 in
-    let rest : rest_behind (x ∷ front) row.0 ≡ Some h.0.0 = ap (rest_behind (x ∷ front)) e ∙ rest_behind-front (x ∷ front) h.0.0 in
-    let long : length row.0 ≡ suc (length (front ++ h.0.0)) = ap length e in
-    let parts = length-append front h.0.0 in
-    let further = weight-behind x front rows h.1 in
+weight-behind x prefix [] h = omega arith
+weight-behind x prefix (row ∷ rows) h =
+    let e : row.0 ≡ x ∷ prefix ++ h.0.0 = h.0.1 in
+    let rest : rest_behind (x ∷ prefix) row.0 ≡ Some h.0.0 = ap (rest_behind (x ∷ prefix)) e ∙ rest_behind-prefix (x ∷ prefix) h.0.0 in
+    let long : length row.0 ≡ suc (length (prefix ++ h.0.0)) = ap length e in
+    let parts = length-append prefix h.0.0 in
+    let further = weight-behind x prefix rows h.1 in
     rw rest (omega arith)
 
-weight-kid : (x y : ℕ) (path value : List ℕ) (rows : List Row) → weight (below (x ∷ []) ((y ∷ path, value) ∷ rows)) ≡ only_at y (suc (length path)) x + weight (below (x ∷ []) rows)
+weight-child : (x y : ℕ) (path value : List ℕ) (rows : List Row) → weight (below (x ∷ []) ((y ∷ path, value) ∷ rows)) ≡ only_at y (suc (length path)) x + weight (below (x ∷ []) rows)
 unfolding weight below rest_behind
-weight-kid x y path value rows =
+weight-child x y path value rows =
     elim (x == y) as (λ b. weight (cons_option (option_map (λ rest. (rest, value)) (if b then Some path else None)) (below (x ∷ []) rows)) ≡ (if b then suc (length path) else 0) + weight (below (x ∷ []) rows)) [
       | true ↦ refl
       | false ↦ omega arith
     ]
 
-weight-kid_none : (x : ℕ) (value : List ℕ) (rows : List Row) → weight (below (x ∷ []) (([], value) ∷ rows)) ≡ weight (below (x ∷ []) rows)
+weight-child_none : (x : ℕ) (value : List ℕ) (rows : List Row) → weight (below (x ∷ []) (([], value) ∷ rows)) ≡ weight (below (x ∷ []) rows)
 unfolding below rest_behind
-weight-kid_none x value rows = refl
+weight-child_none x value rows = refl
 
 weight-none : (x : ℕ) → weight (below (x ∷ []) []) ≡ 0
 unfolding weight below
@@ -117,13 +117,13 @@ weight-cons row rows = refl
 weight-kids : (n : ℕ) (rows : List Row) → sum_below (λ x. weight (below (x ∷ []) rows)) n + length rows ≤ weight rows
 weight-kids n [] = let h = sum_below-agree (λ x. weight (below (x ∷ []) [])) (λ x. 0) n (λ x _. weight-none x) ∙ sum_below-zero n in omega arith
 weight-kids n (([], value) ∷ rows) =
-    let h = sum_below-agree (λ x. weight (below (x ∷ []) (([], value) ∷ rows))) (λ x. weight (below (x ∷ []) rows)) n (λ x _. weight-kid_none x value rows) in
+    let h = sum_below-agree (λ x. weight (below (x ∷ []) (([], value) ∷ rows))) (λ x. weight (below (x ∷ []) rows)) n (λ x _. weight-child_none x value rows) in
     let k = weight-kids n rows in
     let w = weight-cons ([], value) rows in
     omega arith
 weight-kids n ((y ∷ path, value) ∷ rows) =
     let here = only_at y (suc (length path)) in
-    let h = sum_below-agree (λ x. weight (below (x ∷ []) ((y ∷ path, value) ∷ rows))) (λ x. here x + weight (below (x ∷ []) rows)) n (λ x _. weight-kid x y path value rows)
+    let h = sum_below-agree (λ x. weight (below (x ∷ []) ((y ∷ path, value) ∷ rows))) (λ x. here x + weight (below (x ∷ []) rows)) n (λ x _. weight-child x y path value rows)
     ∙ sum_below-add here (λ x. weight (below (x ∷ []) rows)) n in
     let one = sum_below-only y (suc (length path)) n in
     let k = weight-kids n rows in
@@ -195,7 +195,7 @@ bounded-one row fit =
     let w = weight-cons row [] in
     omega arith
 
-bounded-forks : (row next : Row) (rows : List Row) → common_front row (next ∷ rows) ≡ [] → ((x : ℕ) → Bounded (below (x ∷ []) (row ∷ next ∷ rows))) → Bounded (row ∷ next ∷ rows)
+bounded-forks : (row next : Row) (rows : List Row) → common_prefix row (next ∷ rows) ≡ [] → ((x : ℕ) → Bounded (below (x ∷ []) (row ∷ next ∷ rows))) → Bounded (row ∷ next ∷ rows)
 bounded-forks row next rows e further fit =
     let all : List Row = row ∷ next ∷ rows in
     let kids = λ (x : ℕ). tree_of (below (x ∷ []) all) in
@@ -206,17 +206,17 @@ bounded-forks row next rows e further fit =
     let w = weight-kids 16 all in
     omega arith
 
-bounded-shares : (row next : Row) (rows : List Row) (x : ℕ) (front : List ℕ) → common_front row (next ∷ rows) ≡ x ∷ front → Bounded (below (x ∷ front) (row ∷ next ∷ rows)) → Bounded (row ∷ next ∷ rows)
-bounded-shares row next rows x front e further fit =
+bounded-shares : (row next : Row) (rows : List Row) (x : ℕ) (prefix : List ℕ) → common_prefix row (next ∷ rows) ≡ x ∷ prefix → Bounded (below (x ∷ prefix) (row ∷ next ∷ rows)) → Bounded (row ∷ next ∷ rows)
+bounded-shares row next rows x prefix e further fit =
     let all : List Row = row ∷ next ∷ rows in
-    let child = tree_of (below (x ∷ front) all) in
-    let have = subst (λ (f : List ℕ). AllHaveFront f all) e (common_front-all row (next ∷ rows)) in
-    let is = ap usage (tree_of-shares row next rows x front e) ∙ usage-extension (x ∷ front) child in
-    let long = ap length have.0.1 ∙ length-append (x ∷ front) have.0.0 in
-    let short : length (x ∷ front) ≤ longest_path = let k = fit.0.0 in omega arith in
-    let cost = extension_cost (x ∷ front) child short in
-    let w = weight-behind x front all have in
-    let h = further (fit-below (x ∷ front) all fit) in
+    let child = tree_of (below (x ∷ prefix) all) in
+    let have = subst (λ (f : List ℕ). AllHavePrefix f all) e (common_prefix-all row (next ∷ rows)) in
+    let is = ap usage (tree_of-shares row next rows x prefix e) ∙ usage-extension (x ∷ prefix) child in
+    let long = ap length have.0.1 ∙ length-append (x ∷ prefix) have.0.0 in
+    let short : length (x ∷ prefix) ≤ longest_path = let k = fit.0.0 in omega arith in
+    let cost = extension_cost (x ∷ prefix) child short in
+    let w = weight-behind x prefix all have in
+    let h = further (fit-below (x ∷ prefix) all fit) in
     omega arith
 
 pub usage-bounded : (rows : List Row) → AllFit rows → usage (tree_of rows) ≤ share * weight rows

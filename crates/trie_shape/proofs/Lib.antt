@@ -5,7 +5,7 @@ pub mod Shared
 pub mod Bound
 pub mod Shaped
 pub mod Showing
-pub mod SeenLemmas
+pub mod RowsAt
 pub mod Branching
 pub mod Subtrees
 pub mod Whole

@@ -3,7 +3,7 @@ use Rattle.std.proofs.Common.{◌≡◌, ℕ, zero, suc, ◌<◌, ◌≤◌, ◌
 use Rattle.std.proofs.lemmas.Bool.Decides.{nat_tests}
 use Rattle.std.specs.List.{AllByRecursion}
 use Rattle.trie_model.specs.State.{Row}
-use Rattle.trie_model.specs.Tree.{rest_behind, below, ends_here, common, common_front}
+use Rattle.trie_model.specs.Tree.{rest_behind, below, ends_here, common, common_prefix}
 use Rattle.trie_model.proofs.Rests.{same_nibble, equal_of_test}
 use Rattle.trie_shape.specs.Runs.{IsBelow, Rises, StartsFrom, AllFrom, run_of, tails}
 
@@ -57,12 +57,12 @@ last-all : (P : Row → Type 0) (row : Row) (rows : List Row) → AllByRecursion
 last-all P row [] h = h.0
 last-all P row (next ∷ rows) h = last-all P next rows h.1
 
-pub common_front-rising : (row : Row) (rows : List Row) → Rises (row ∷ rows) → common_front row rows ≡ common row.0 (last_of row rows).0
-unfolding common_front
-common_front-rising row [] h = sym (common-itself row.0)
-common_front-rising row (next ∷ []) h = refl
-common_front-rising row (next ∷ other ∷ rows) h =
-    ap (common row.0) (common_front-rising next (other ∷ rows) h.1)
+pub common_prefix-rising : (row : Row) (rows : List Row) → Rises (row ∷ rows) → common_prefix row rows ≡ common row.0 (last_of row rows).0
+unfolding common_prefix
+common_prefix-rising row [] h = sym (common-itself row.0)
+common_prefix-rising row (next ∷ []) h = refl
+common_prefix-rising row (next ∷ other ∷ rows) h =
+    ap (common row.0) (common_prefix-rising next (other ∷ rows) h.1)
     ∙ common-between row.0 next.0 (last_of other rows).0 h.0.0 (last-all (λ r. IsBelow next.0 r.0) other rows h.1.0)
 
 -- ---- the row that ends here

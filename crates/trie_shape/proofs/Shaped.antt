@@ -4,14 +4,14 @@ use Rattle.std.specs.List.{AllByRecursion, cons_option}
 use Rattle.std.proofs.lemmas.Bool.{cases_lt}
 use Rattle.byte_model.specs.Below.{sum_below}
 use Rattle.byte_model.specs.Nibbles.{AreNibbles}
-use Rattle.byte_model.specs.Node.{kid_count}
+use Rattle.byte_model.specs.Node.{child_count}
 use Rattle.trie_model.specs.State.{Row}
-use Rattle.trie_model.specs.Tree.{Tree, below, rest_behind, ends_here, common, common_front, forked, tree_of}
+use Rattle.trie_model.specs.Tree.{Tree, below, rest_behind, ends_here, common, common_prefix, forked, tree_of}
 use Rattle.trie_model.specs.Texts.{name_of, text}
 use Rattle.trie_model.proofs.Rests.{same_nibble, below-some}
 use Rattle.trie_model.proofs.Trees.{tree_by-tree_of}
 use Rattle.trie_shape.specs.Runs.{IsBelow, Rises}
-use Rattle.trie_shape.proofs.Rising.{last_of, common_front-rising}
+use Rattle.trie_shape.proofs.Rising.{last_of, common_prefix-rising}
 
 -- ---- sums of ones
 
@@ -36,22 +36,22 @@ sum-two f x y (suc n) h k =
 -- ---- the children that rows have
 
 -- the digests of the children of a branch of rows
-abbrev pub tree_kids : List Row → ℕ → Option (List ℕ)
-tree_kids rows x = name_of (tree_of (below (x ∷ []) rows)) (text (tree_of (below (x ∷ []) rows)))
+abbrev pub tree_children : List Row → ℕ → Option (List ℕ)
+tree_children rows x = name_of (tree_of (below (x ∷ []) rows)) (text (tree_of (below (x ∷ []) rows)))
 
-named : (row next : Row) (rows : List Row) (f : List Row → Tree) (front t : List ℕ) → is_some (name_of (forked f front (row ∷ next ∷ rows)) t) ≡ true
+named : (row next : Row) (rows : List Row) (f : List Row → Tree) (prefix t : List ℕ) → is_some (name_of (forked f prefix (row ∷ next ∷ rows)) t) ≡ true
 unfolding name_of
 named row next rows f [] t = refl
-named row next rows f (x ∷ front) t = refl
+named row next rows f (x ∷ prefix) t = refl
 
 named-some : (rows : List Row) (t : List ℕ) → rows ≢ [] → is_some (name_of (tree_of rows) t) ≡ true
 unfolding name_of
 named-some [] t some = absurd (some refl)
 named-some (row ∷ []) t some = ap (λ (tree : Tree). is_some (name_of tree t)) (sym (tree_by-tree_of (row ∷ [])))
-named-some (row ∷ next ∷ rows) t some = ap (λ (tree : Tree). is_some (name_of tree t)) (sym (tree_by-tree_of (row ∷ next ∷ rows))) ∙ named row next rows tree_of (common_front row (next ∷ rows)) t
+named-some (row ∷ next ∷ rows) t some = ap (λ (tree : Tree). is_some (name_of tree t)) (sym (tree_by-tree_of (row ∷ next ∷ rows))) ∙ named row next rows tree_of (common_prefix row (next ∷ rows)) t
 
 abbrev one_at : List Row → ℕ → ℕ
-one_at rows x = if is_some (tree_kids rows x) then 1 else 0
+one_at rows x = if is_some (tree_children rows x) then 1 else 0
 
 -- some row begins with a nibble
 abbrev Begins : ℕ → List Row → Type 0
@@ -99,7 +99,7 @@ ending-first : (value : List ℕ) (rows : List Row) → ending (([], value) ∷ 
 unfolding ends_here
 ending-first value rows = refl
 
-pub shaped : (row next : Row) (rows : List Row) → Rises (row ∷ next ∷ rows) → AllNibbles (row ∷ next ∷ rows) → common_front row (next ∷ rows) ≡ [] → 2 ≤ kid_count (tree_kids (row ∷ next ∷ rows)) + ending (row ∷ next ∷ rows)
+pub shaped : (row next : Row) (rows : List Row) → Rises (row ∷ next ∷ rows) → AllNibbles (row ∷ next ∷ rows) → common_prefix row (next ∷ rows) ≡ [] → 2 ≤ child_count (tree_children (row ∷ next ∷ rows)) + ending (row ∷ next ∷ rows)
 shaped (path, value) next rows rises small forks = go path (last_of next rows).0 refl refl
   where
     all : List ℕ → List Row
@@ -109,20 +109,20 @@ shaped (path, value) next rows rises small forks = go path (last_of next rows).0
     above = last-all (λ r. IsBelow path r.0) next rows rises.0
 
     shared : common path (last_of next rows).0 ≡ []
-    shared = sym (common_front-rising (path, value) (next ∷ rows) rises) ∙ forks
+    shared = sym (common_prefix-rising (path, value) (next ∷ rows) rises) ∙ forks
 
     last_small : AreNibbles (last_of next rows).0
     last_small = last-all (λ r. AreNibbles r.0) next rows small.1
 
-    kid : (y : ℕ) (q p : List ℕ) → (last_of next rows).0 ≡ y ∷ q → one_at (all p) y ≡ 1
-    kid y q p e = one_of (all p) y (begins-last y q (p, value) (next ∷ rows) e)
+    child : (y : ℕ) (q p : List ℕ) → (last_of next rows).0 ≡ y ∷ q → one_at (all p) y ≡ 1
+    child y q p e = one_of (all p) y (begins-last y q (p, value) (next ∷ rows) e)
 
-    go : (p q : List ℕ) → path ≡ p → (last_of next rows).0 ≡ q → 2 ≤ kid_count (tree_kids (all path)) + ending (all path)
+    go : (p q : List ℕ) → path ≡ p → (last_of next rows).0 ≡ q → 2 ≤ child_count (tree_children (all path)) + ending (all path)
     go [] [] e f = absurd (subst (IsBelow path) f above)
     go (x ∷ p) [] e f = absurd (subst (IsBelow path) f above)
     go [] (y ∷ q) e f =
         let small_y : y < 16 = (subst AreNibbles f last_small).0 in
-        let here = kid y q path f in
+        let here = child y q path f in
         let one = sum-one (one_at (all path)) y 16 small_y in
         let ends = subst (λ (w : List ℕ). ending (all w) ≡ 1) (sym e) (ending-first value (next ∷ rows)) in
         omega arith
@@ -130,7 +130,7 @@ shaped (path, value) next rows rises small forks = go path (last_of next rows).0
         let small_y : y < 16 = (subst AreNibbles f last_small).0 in
         let order : IsBelow (x ∷ p) (y ∷ q) = subst (λ (w : List ℕ). IsBelow w (y ∷ q)) e (subst (IsBelow path) f above) in
         let none : common (x ∷ p) (y ∷ q) ≡ [] = subst (λ (w : List ℕ). common w (y ∷ q) ≡ []) e (subst (λ (w : List ℕ). common path w ≡ []) f shared) in
-        let one = kid y q path f in
+        let one = child y q path f in
         let two = one_of (all path) x (subst (λ (w : List ℕ). Begins x (all w)) (sym e) (begins-first x p value (next ∷ rows))) in
         elim order [
           | inl l ↦ (let sum = sum-two (one_at (all path)) x y 16 l small_y in omega arith)

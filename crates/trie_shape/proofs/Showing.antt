@@ -8,8 +8,8 @@ use Rattle.byte_model.specs.Node as node
 use Rattle.byte_model.specs.Borsh.{borsh_u16, borsh_u64}
 use Rattle.byte_model.specs.Below.{sum_below}
 use Rattle.trie_model.proofs.Joined.{sum_below-agree, joined_below-agree}
-use Rattle.byte_model.specs.Node.{Node, spelled_kids, spelled_value, child_bit, child_digest, spelled, own_cost, ValueRef as ValueOfRecord}
-use Rattle.node_codec.specs.Shown.{value_of}
+use Rattle.byte_model.specs.Node.{Node, spelled_children, spelled_value, child_bit, child_digest, spelled, own_cost, ValueRef as ValueOfRecord}
+use Rattle.node_codec.specs.Meanings.{value_of}
 use Rattle.trie_shape.specs.declared.closed.Closed.{Closed}
 use Rattle.trie_shape.specs.declared.sub.Sub.{Sub}
 use Rattle.trie_shape.specs.declared.sub.Sub.TheVariants.{Empty, Leaf, Branch, Extension}
@@ -70,17 +70,17 @@ is_top (Extension path child used) closed (extension p t) written some h =
 
 -- ---- the record of a branch
 
-spelled_kids-agree : (kids others : ℕ → Option (List ℕ)) → ((x : ℕ) → x < 16 → kids x ≡ others x) → spelled_kids kids ≡ spelled_kids others
-unfolding spelled_kids
-spelled_kids-agree kids others same =
+spelled_children-agree : (kids others : ℕ → Option (List ℕ)) → ((x : ℕ) → x < 16 → kids x ≡ others x) → spelled_children kids ≡ spelled_children others
+unfolding spelled_children
+spelled_children-agree kids others same =
     ap₂ (λ (bits : ℕ) (digests : List ℕ). borsh_u16 bits ++ digests)
-    (sum_below-agree (child_bit kids) (child_bit others) 16 (λ x h. ap (λ (kid : Option (List ℕ)). if is_some kid then 2 ^ x else 0) (same x h)))
+    (sum_below-agree (child_bit kids) (child_bit others) 16 (λ x h. ap (λ (child : Option (List ℕ)). if is_some child then 2 ^ x else 0) (same x h)))
     (joined_below-agree (λ x. child_digest (kids x)) (λ x. child_digest (others x)) 16 (λ x h. ap child_digest (same x h)))
 
 spelled-branch : (value : Option ValueOfRecord) (kids others : ℕ → Option (List ℕ)) (used : ℕ) → ((x : ℕ) → x < 16 → kids x ≡ others x) → spelled (node.branch value kids) used ≡ spelled (node.branch value others) used
 unfolding spelled
-spelled-branch None kids others used same = ap (λ (bytes : List ℕ). 1 ∷ bytes ++ borsh_u64 used) (spelled_kids-agree kids others same)
-spelled-branch (Some value) kids others used same = ap (λ (bytes : List ℕ). 2 ∷ spelled_value value ++ bytes ++ borsh_u64 used) (spelled_kids-agree kids others same)
+spelled-branch None kids others used same = ap (λ (bytes : List ℕ). 1 ∷ bytes ++ borsh_u64 used) (spelled_children-agree kids others same)
+spelled-branch (Some value) kids others used same = ap (λ (bytes : List ℕ). 2 ∷ spelled_value value ++ bytes ++ borsh_u64 used) (spelled_children-agree kids others same)
 
 pub branch_cost : (v : Option (List ℕ)) (kids : ℕ → Option (List ℕ)) (trees : ℕ → Tree) → own_cost (node.branch (option_map value_ref v) kids) ≡ top_cost (branch v trees)
 unfolding own_cost top_cost

@@ -10,13 +10,13 @@ use Rattle.trie_model.specs.Texts.{usage, text, name_of}
 use Rattle.trie_model.specs.Root.{zero_digest, root_of, root, total, subtree_at}
 use Rattle.trie_model.proofs.Costs.{subtree_at-root}
 use Rattle.base_core.specs.declared.hash.Digest.{Digest}
-use Rattle.base_core.specs.Held.{Held, IsHeld}
+use Rattle.base_core.specs.PairMaps.{PairMap, IsPairMap}
 use Rattle.trie_shape.specs.Runs.{Rises}
-use Rattle.trie_shape.specs.Seen.{Lent, seen, IsRowAt, AreRowsAt}
+use Rattle.trie_shape.specs.RowsAt.{Lent, rows_at, IsRowAt, AreRowsAt}
 use Rattle.trie_shape.specs.Shows.{IsName}
 use Rattle.trie_shape.proofs.Sorted.{rises-rows_of}
 use Rattle.trie_shape.proofs.Bound.{usage-fits}
-use Rattle.trie_shape.proofs.Branching.{all-fit, length-seen}
+use Rattle.trie_shape.proofs.Branching.{all-fit, length-rows_at}
 
 abbrev Entry : Type 0
 Entry = List ℕ × List ℕ
@@ -27,13 +27,13 @@ lent rows = map (λ row. (row.0.now, row.1.now)) rows
 abbrev from_entries : List Entry → List Row
 from_entries es = map (λ pair. (nibbles pair.0, pair.1)) es
 
-seen-lent : (rows : List Lent) → seen 0 rows ≡ from_entries (lent rows)
-seen-lent [] = refl
-seen-lent (row ∷ rows) = ap (λ (rs : List Row). (nibbles row.0.now, row.1.now) ∷ rs) (seen-lent rows)
+rows_at-lent : (rows : List Lent) → rows_at 0 rows ≡ from_entries (lent rows)
+rows_at-lent [] = refl
+rows_at-lent (row ∷ rows) = ap (λ (rs : List Row). (nibbles row.0.now, row.1.now) ∷ rs) (rows_at-lent rows)
 
-pub seen-state : (state : State) (rows : List Lent) → lent rows ≡ entries state → seen 0 rows ≡ rows_of state
+pub rows_at-state : (state : State) (rows : List Lent) → lent rows ≡ entries state → rows_at 0 rows ≡ rows_of state
 unfolding rows_of
-seen-state state rows e = seen-lent rows ∙ ap from_entries e
+rows_at-state state rows e = rows_at-lent rows ∙ ap from_entries e
 
 length-nibbles : (key : List ℕ) → length (nibbles key) ≡ 2 * length key
 unfolding nibbles
@@ -52,25 +52,25 @@ each-row (row ∷ rows) h =
     let short = h.0.key_length in
     (record { deep = omega arith; short = omega arith; nibbles = nibbles-small row.0.now h.0.key; value = h.0.value_length }, each-row rows h.1)
 
-module _ (held : Held) (rows : List Lent) (is : IsHeld held) (e : lent rows ≡ entries held.state) where
+module _ (held : PairMap) (rows : List Lent) (is : IsPairMap held) (e : lent rows ≡ entries held.state) where
   pub state-rows : AreRowsAt 0 rows
   state-rows = record {
-    rises = subst Rises (sym (seen-state held.state rows e)) (rises-rows_of held.state);
+    rises = subst Rises (sym (rows_at-state held.state rows e)) (rises-rows_of held.state);
     each = each-row rows (subst (AllByRecursion IsPair) (sym e) is.pairs);
   }
 
-  pub state-fits : usage (tree_of (seen 0 rows)) < 2 ^ 64
+  pub state-fits : usage (tree_of (rows_at 0 rows)) < 2 ^ 64
   state-fits =
-      let long = length-seen 0 rows in
+      let long = length-rows_at 0 rows in
       let count = sym (length-map rows (λ (row : Lent). (row.0.now, row.1.now))) ∙ ap length e in
       let few = is.few in
       let most = is.most in
-      usage-fits (seen 0 rows) (all-fit 0 rows state-rows.each) (omega arith)
+      usage-fits (rows_at 0 rows) (all-fit 0 rows state-rows.each) (omega arith)
 
-  whole_tree : tree_of (seen 0 rows) ≡ subtree_at held.state []
-  whole_tree = ap tree_of (seen-state held.state rows e) ∙ sym (subtree_at-root held.state)
+  whole_tree : tree_of (rows_at 0 rows) ≡ subtree_at held.state []
+  whole_tree = ap tree_of (rows_at-state held.state rows e) ∙ sym (subtree_at-root held.state)
 
-  pub state-total : (name : Option Digest × ℕ) → IsName name (tree_of (seen 0 rows)) → name.1 ≡ total held.state
+  pub state-total : (name : Option Digest × ℕ) → IsName name (tree_of (rows_at 0 rows)) → name.1 ≡ total held.state
   state-total name is = is.usage ∙ ap usage whole_tree
 
   root-name : (tree : Tree) → root_of tree ≡ unwrap_or (name_of tree (text tree)) zero_digest
@@ -84,5 +84,5 @@ module _ (held : Held) (rows : List Lent) (is : IsHeld held) (e : lent rows ≡ 
   or_zero None zero e = e
   or_zero (Some digest) zero e = refl
 
-  pub state-root : (name : Option Digest × ℕ) (zero : Digest) → zero.0 ≡ zero_digest → IsName name (tree_of (seen 0 rows)) → (unwrap_or name.0 zero).0 ≡ root held.state
-  state-root name zero z is = or_zero name.0 zero z ∙ ap (λ o. unwrap_or o zero_digest) is.digest ∙ sym (root-name (tree_of (seen 0 rows))) ∙ ap root_of whole_tree
+  pub state-root : (name : Option Digest × ℕ) (zero : Digest) → zero.0 ≡ zero_digest → IsName name (tree_of (rows_at 0 rows)) → (unwrap_or name.0 zero).0 ≡ root held.state
+  state-root name zero z is = or_zero name.0 zero z ∙ ap (λ o. unwrap_or o zero_digest) is.digest ∙ sym (root-name (tree_of (rows_at 0 rows))) ∙ ap root_of whole_tree

@@ -4,8 +4,8 @@ use Rattle.trie_model.specs.Tree.{Tree, nothing, leaf, branch, extension}
 
 -- A path grows, a branch becomes the child of an extension, and no nibbles change nothing. It is the trie of the same rows with the nibbles before their paths.
 unfoldable pub grown : List ℕ → Tree → Tree
-grown front nothing = nothing
-grown front (leaf path value) = leaf (front ++ path) value
+grown prefix nothing = nothing
+grown prefix (leaf path value) = leaf (prefix ++ path) value
 grown [] (branch value kids) = branch value kids
-grown (x ∷ front) (branch value kids) = extension (x ∷ front) (branch value kids)
-grown front (extension path child) = extension (front ++ path) child
+grown (x ∷ prefix) (branch value kids) = extension (x ∷ prefix) (branch value kids)
+grown prefix (extension path child) = extension (prefix ++ path) child

@@ -1,4 +1,4 @@
 pub mod Grown
 pub mod Runs
-pub mod Seen
+pub mod RowsAt
 pub mod Shows

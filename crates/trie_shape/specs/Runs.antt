@@ -2,7 +2,7 @@
 use Rattle.std.specs.Prelude.{◌≡◌, ℕ, suc, ◌<◌, ◌≤◌, ◌==◌, Bool, false, List, [], ◌∷◌, map, drop, if◌then◌else◌, ◌⊎◌}
 use Rattle.std.specs.List.{AllByRecursion}
 use Rattle.trie_model.specs.State.{Row}
-use Rattle.trie_model.specs.Tree.{common_front}
+use Rattle.trie_model.specs.Tree.{common_prefix}
 
 -- an order on paths, a prefix first
 abbrev pub IsBelow : List ℕ → List ℕ → Type 0
@@ -28,7 +28,7 @@ abbrev pub goes_on : ℕ → List ℕ → Bool
 goes_on x [] = false
 goes_on x (y ∷ path) = x == y
 
--- how many rows from the front on go on with the nibble x
+-- how many rows from the start on go on with the nibble x
 unfoldable pub run_of : ℕ → List Row → ℕ
 run_of x [] = 0
 run_of x (row ∷ rows) = if goes_on x row.0 then suc (run_of x rows) else 0
@@ -37,7 +37,7 @@ run_of x (row ∷ rows) = if goes_on x row.0 then suc (run_of x rows) else 0
 abbrev pub tails : List Row → List Row
 tails rows = map (λ row. (drop 1 row.0, row.1)) rows
 
--- the common front of rows, and nothing of no row
-abbrev pub front_of : List Row → List ℕ
-front_of [] = []
-front_of (row ∷ rows) = common_front row rows
+-- the common prefix of rows, and nothing of no row
+abbrev pub prefix_of : List Row → List ℕ
+prefix_of [] = []
+prefix_of (row ∷ rows) = common_prefix row rows

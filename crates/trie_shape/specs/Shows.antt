@@ -6,7 +6,7 @@ use Rattle.byte_model.specs.Node.{Node, spelled, own_cost}
 use Rattle.trie_model.specs.Tree.{Tree, nothing, leaf, branch, extension}
 use Rattle.trie_model.specs.Texts as texts
 use Rattle.trie_model.specs.Texts.{text, usage, value_ref, name_of}
-use Rattle.node_codec.specs.Shown.{value_of}
+use Rattle.node_codec.specs.Meanings.{value_of}
 use Rattle.base_core.specs.declared.hash.Digest.{Digest}
 use Rattle.trie_shape.specs.declared.closed.Closed.{Closed}
 use Rattle.trie_shape.specs.declared.sub.Sub.{Sub}

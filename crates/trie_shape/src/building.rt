@@ -9,15 +9,15 @@ ghost use Rattle.trie_model.specs.Tree as tree;
 ghost use Rattle.trie_model.specs.Tree.{Tree, tree_of, leaf};
 ghost use Rattle.trie_model.specs.Texts as texts;
 ghost use Rattle.trie_model.specs.Root as state;
-ghost use Rattle.node_codec.specs.Shown.{value_of, kids_of};
+ghost use Rattle.node_codec.specs.Meanings.{value_of, children_in};
 ghost use Rattle.trie_shape.specs.Grown.{grown};
-ghost use Rattle.trie_shape.specs.Runs.{front_of};
-ghost use Rattle.trie_shape.specs.Seen.{seen, AreRowsAt};
+ghost use Rattle.trie_shape.specs.Runs.{prefix_of};
+ghost use Rattle.trie_shape.specs.RowsAt.{rows_at, AreRowsAt};
 ghost use Rattle.trie_shape.specs.Shows.{Shows, IsName, top_node, path_of, usage_of};
 
 use crate::close_error::CloseError;
 use crate::closing::close_branch;
-use crate::rows::{Row, ending, nibbles_of, run_length, shared_length, value_ref};
+use crate::rows::{KeyValue, ending, nibbles_of, run_length, shared_length, value_ref};
 use crate::sub::Sub;
 use base_core::{Digest, Pairs};
 use nibble_keys::Nibbles;
@@ -47,11 +47,11 @@ pub fn build(alloc: Global, pairs: &Pairs) -> Result<Built, AllocError>
 
 /// The digest that names the trie of some rows from a depth on, and its usage.
 #[cycle(build)]
-fn named(alloc: Global, rows: &[Row<'_>], depth: u64) -> Result<(Option<Digest>, u64), AllocError>
+fn named(alloc: Global, rows: &[KeyValue<'_>], depth: u64) -> Result<(Option<Digest>, u64), AllocError>
     requires rows { AreRowsAt depth rows.now }
     requires depth { depth ≤ longest_path + 1 }
-    requires fits { texts.usage (tree_of (seen depth rows.now)) < 2 ^ 64 }
-    ensures { IfOk result (λ name. IsName name (tree_of (seen depth rows.now))) }
+    requires fits { texts.usage (tree_of (rows_at depth rows.now)) < 2 ^ 64 }
+    ensures { IfOk result (λ name. IsName name (tree_of (rows_at depth rows.now))) }
 {
     let sub = subtree(alloc, rows, depth)?;
     name_of(alloc, sub)
@@ -59,11 +59,11 @@ fn named(alloc: Global, rows: &[Row<'_>], depth: u64) -> Result<(Option<Digest>,
 
 /// The trie of some rows from a depth on.
 #[cycle(build)]
-fn subtree(alloc: Global, rows: &[Row<'_>], depth: u64) -> Result<Sub, AllocError>
+fn subtree(alloc: Global, rows: &[KeyValue<'_>], depth: u64) -> Result<Sub, AllocError>
     requires rows { AreRowsAt depth rows.now }
     requires depth { depth ≤ longest_path + 1 }
-    requires fits { texts.usage (tree_of (seen depth rows.now)) < 2 ^ 64 }
-    ensures { IfOk result (λ sub. Shows sub (tree_of (seen depth rows.now))) }
+    requires fits { texts.usage (tree_of (rows_at depth rows.now)) < 2 ^ 64 }
+    ensures { IfOk result (λ sub. Shows sub (tree_of (rows_at depth rows.now))) }
 {
     match rows {
         [] => Ok(Sub::Empty),
@@ -78,16 +78,16 @@ fn subtree(alloc: Global, rows: &[Row<'_>], depth: u64) -> Result<Sub, AllocErro
 
 /// The trie of rows that part at a depth.
 #[cycle(build)]
-fn branch(alloc: Global, rows: &[Row<'_>], depth: u64) -> Result<Sub, AllocError>
+fn branch(alloc: Global, rows: &[KeyValue<'_>], depth: u64) -> Result<Sub, AllocError>
     requires rows { AreRowsAt depth rows.now }
     requires depth { depth ≤ longest_path }
     requires two { 2 ≤ length rows.now }
-    requires forks { front_of (seen depth rows.now) ≡ [] }
-    requires fits { texts.usage (tree_of (seen depth rows.now)) < 2 ^ 64 }
-    ensures { IfOk result (λ sub. Shows sub (tree_of (seen depth rows.now))) }
+    requires forks { prefix_of (rows_at depth rows.now) ≡ [] }
+    requires fits { texts.usage (tree_of (rows_at depth rows.now)) < 2 ^ 64 }
+    ensures { IfOk result (λ sub. Shows sub (tree_of (rows_at depth rows.now))) }
 {
     let (value, mut rest) = ending(rows, depth);
-    let mut kids = no_kids(alloc)?;
+    let mut kids = no_children(alloc)?;
     let mut kids_usage = 0;
     for nibble in 0..16 {
         let (run, others) = rest.split_at(run_length(rest, depth, nibble));
@@ -143,12 +143,12 @@ fn under_nibbles(
     requires { from + count ≤ length (nibbles key.now) }
     ensures { IfOk result (λ grows. (tree : Tree) → Shows sub tree → Shows grows (grown (take count (drop from (nibbles key.now))) tree)) }
 {
-    let front = nibbles_of(alloc, key, from, count)?;
-    sub.under(alloc, front.as_slice())
+    let prefix = nibbles_of(alloc, key, from, count)?;
+    sub.under(alloc, prefix.as_slice())
 }
 
 #[inline(never)]
-fn no_kids(alloc: Global) -> Result<Box<Kids>, AllocError>
+fn no_children(alloc: Global) -> Result<Box<Kids>, AllocError>
     ensures { IfOk result (λ kids. length kids.value ≡ 16) }
 {
     Ok(Box::new(alloc, Kids::NONE)?)
@@ -162,9 +162,9 @@ fn fork_of(
     kids: &Kids,
     kids_usage: u64,
 ) -> Result<Sub, AllocError>
-    requires shaped { IsShaped (node.branch (option_map value_of value) (kids_of kids.now)) }
-    requires fits { own_cost (node.branch (option_map value_of value) (kids_of kids.now)) + kids_usage < 2 ^ 64 }
-    ensures { IfOk result (λ sub. (v : Option (List ℕ)) (trees : ℕ → Tree) → option_map value_of value ≡ option_map texts.value_ref v → ((x : ℕ) → x < 16 → kids_of kids.now x ≡ texts.name_of (trees x) (texts.text (trees x))) → kids_usage ≡ sum_below (λ x. texts.usage (trees x)) 16 → Shows sub (tree.branch v trees)) }
+    requires shaped { IsShaped (node.branch (option_map value_of value) (children_in kids.now)) }
+    requires fits { own_cost (node.branch (option_map value_of value) (children_in kids.now)) + kids_usage < 2 ^ 64 }
+    ensures { IfOk result (λ sub. (v : Option (List ℕ)) (trees : ℕ → Tree) → option_map value_of value ≡ option_map texts.value_ref v → ((x : ℕ) → x < 16 → children_in kids.now x ≡ texts.name_of (trees x) (texts.text (trees x))) → kids_usage ≡ sum_below (λ x. texts.usage (trees x)) 16 → Shows sub (tree.branch v trees)) }
 {
     match close_branch(alloc, value, kids, kids_usage) {
         Ok(closed) => Ok(Sub::Branch {

@@ -7,7 +7,7 @@ ghost use Rattle.byte_model.specs.Node.{leaf, branch, extension, own_cost, IsSha
 ghost use Rattle.trie_model.specs.Tree.{Tree};
 ghost use Rattle.trie_model.specs.Tree as tree;
 ghost use Rattle.trie_model.specs.Texts.{usage, text, name_of, value_ref};
-ghost use Rattle.node_codec.specs.Shown.{value_of, kids_of};
+ghost use Rattle.node_codec.specs.Meanings.{value_of, children_in};
 ghost use Rattle.trie_shape.specs.declared.close_error.CloseError.TheVariants.{Usage};
 ghost use Rattle.trie_shape.specs.Shows.{IsRecord, IsTop};
 
@@ -25,10 +25,10 @@ pub fn close_branch(
     kids: &Kids,
     kids_usage: u64,
 ) -> Result<Closed, CloseError>
-    requires { IsShaped (branch (option_map value_of value) (kids_of kids.now)) }
-    ensures usage { (result ≡ Err Usage) ↔ (2 ^ 64 ≤ own_cost (branch (option_map value_of value) (kids_of kids.now)) + kids_usage) }
-    ensures written { IfOk result (λ closed. IsRecord closed (branch (option_map value_of value) (kids_of kids.now)) (own_cost (branch (option_map value_of value) (kids_of kids.now)) + kids_usage)) }
-    ensures shows { IfOk result (λ closed. (v : Option (List ℕ)) (trees : ℕ → Tree) → option_map value_of value ≡ option_map value_ref v → ((x : ℕ) → x < 16 → kids_of kids.now x ≡ name_of (trees x) (text (trees x))) → kids_usage ≡ sum_below (λ x. usage (trees x)) 16 → IsTop closed (tree.branch v trees)) }
+    requires { IsShaped (branch (option_map value_of value) (children_in kids.now)) }
+    ensures usage { (result ≡ Err Usage) ↔ (2 ^ 64 ≤ own_cost (branch (option_map value_of value) (children_in kids.now)) + kids_usage) }
+    ensures written { IfOk result (λ closed. IsRecord closed (branch (option_map value_of value) (children_in kids.now)) (own_cost (branch (option_map value_of value) (children_in kids.now)) + kids_usage)) }
+    ensures shows { IfOk result (λ closed. (v : Option (List ℕ)) (trees : ℕ → Tree) → option_map value_of value ≡ option_map value_ref v → ((x : ℕ) → x < 16 → children_in kids.now x ≡ name_of (trees x) (text (trees x))) → kids_usage ≡ sum_below (λ x. usage (trees x)) 16 → IsTop closed (tree.branch v trees)) }
 {
     match branch_cost(&value).checked_add(kids_usage) {
         None => Err(CloseError::Usage),

@@ -2,8 +2,8 @@ ghost use Rattle.std.specs.Prelude.{◌≡◌, ◌+◌, ◌*◌, ◌-◌, ◌^�
 ghost use Rattle.std.specs.Option.{option_map};
 ghost use Rattle.byte_model.specs.PackedPath.{longest_path, packed};
 ghost use Rattle.byte_model.specs.Node.{leaf, branch, extension, own_cost};
-ghost use Rattle.node_codec.specs.Shown.{value_of};
-ghost use Rattle.node_codec.specs.Views.{node_seen};
+ghost use Rattle.node_codec.specs.Meanings.{value_of};
+ghost use Rattle.node_codec.specs.Views.{node_viewed};
 
 use nibble_keys::packed_len;
 use node_codec::{NodeView, ValueRef};
@@ -20,7 +20,7 @@ const VALUE_COST: u64 = 50;
 /// there. It takes no memory.
 #[tactic(auto, unfolding(byte_model::specs::Node::own_cost))]
 pub fn own_cost(view: &NodeView<'_>) -> u64
-    ensures { result ≡ min (own_cost (node_seen view.now)) (2 ^ 64 - 1) }
+    ensures { result ≡ min (own_cost (node_viewed view.now)) (2 ^ 64 - 1) }
 {
     match view {
         NodeView::Leaf { path, value } => {

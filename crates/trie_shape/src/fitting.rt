@@ -1,6 +1,6 @@
 ghost use Rattle.std.specs.Prelude.{◌≡◌};
 ghost use Rattle.record_model.specs.Fits.{fits_at};
-ghost use Rattle.node_codec.specs.Views.{node_seen};
+ghost use Rattle.node_codec.specs.Views.{node_viewed};
 
 use node_codec::NodeView;
 
@@ -16,7 +16,7 @@ const LONGEST_PATH: u64 = 4228;
 /// not empty.
 #[tactic(auto, unfolding(record_model::specs::Fits::has_place))]
 pub fn fits(view: &NodeView<'_>, depth: u64, after_extension: bool) -> bool
-    ensures { result ≡ fits_at depth after_extension (node_seen view.now) }
+    ensures { result ≡ fits_at depth after_extension (node_viewed view.now) }
 {
     if !view.is_shaped() {
         return false;

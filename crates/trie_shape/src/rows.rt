@@ -3,9 +3,9 @@ ghost use Rattle.byte_model.specs.Nibbles.{nibbles};
 ghost use Rattle.byte_model.specs.Node.{longest_value};
 ghost use Rattle.trie_model.specs.Tree.{common, ends_here};
 ghost use Rattle.trie_model.specs.Texts as texts;
-ghost use Rattle.node_codec.specs.Shown.{value_of};
+ghost use Rattle.node_codec.specs.Meanings.{value_of};
 ghost use Rattle.trie_shape.specs.Runs.{Rises, AllFrom, goes_on, run_of};
-ghost use Rattle.trie_shape.specs.Seen.{seen, AreRowsAt, IsLeft};
+ghost use Rattle.trie_shape.specs.RowsAt.{rows_at, AreRowsAt, IsLeft};
 
 use base_core::{Text, Writer, digest};
 use nibble_keys::Nibbles;
@@ -13,7 +13,7 @@ use node_codec::ValueRef;
 use std::alloc::{AllocError, Global};
 
 /// A key and its value.
-pub(crate) type Row<'a> = (&'a [u8], &'a [u8]);
+pub(crate) type KeyValue<'a> = (&'a [u8], &'a [u8]);
 
 /// How a node names a value.
 pub fn value_ref(value: &[u8]) -> ValueRef
@@ -55,9 +55,9 @@ pub(crate) fn shared_length(first: &[u8], last: &[u8], depth: u64) -> u64
 }
 
 /// The value of the row whose key ends at a depth, if one does, and the rows that go on.
-pub(crate) fn ending<'a, 'b>(rows: &'a [Row<'b>], depth: u64) -> (Option<ValueRef>, &'a [Row<'b>])
+pub(crate) fn ending<'a, 'b>(rows: &'a [KeyValue<'b>], depth: u64) -> (Option<ValueRef>, &'a [KeyValue<'b>])
     requires { AreRowsAt depth rows.now }
-    ensures value { option_map value_of result.0 ≡ option_map texts.value_ref (ends_here (seen depth rows.now)) }
+    ensures value { option_map value_of result.0 ≡ option_map texts.value_ref (ends_here (rows_at depth rows.now)) }
     ensures left { IsLeft 0 depth rows.now result.1.now }
 {
     let Some((&(key, value), rest)) = rows.split_first() else {
@@ -72,10 +72,10 @@ pub(crate) fn ending<'a, 'b>(rows: &'a [Row<'b>], depth: u64) -> (Option<ValueRe
 
 /// How many rows go on with a nibble at a depth, where none goes on with a lower one. They are the
 /// first ones, so the place where they end is searched for.
-pub(crate) fn run_length(rows: &[Row<'_>], depth: u64, nibble: u8) -> usize
-    requires rises { Rises (seen depth rows.now) }
-    requires from { AllFrom nibble (seen depth rows.now) }
-    ensures { result ≡ run_of nibble (seen depth rows.now) }
+pub(crate) fn run_length(rows: &[KeyValue<'_>], depth: u64, nibble: u8) -> usize
+    requires rises { Rises (rows_at depth rows.now) }
+    requires from { AllFrom nibble (rows_at depth rows.now) }
+    ensures { result ≡ run_of nibble (rows_at depth rows.now) }
 {
     rows.partition_point(|(key, _)| goes_on(key, depth, nibble))
 }

@@ -121,11 +121,11 @@ impl Sub {
     }
 }
 
-fn joined(alloc: Global, front: &[u8], path: &[u8]) -> Result<Text, AllocError>
-    ensures { IfOk result (λ text. text ≡ front.now ++ path.now) }
+fn joined(alloc: Global, prefix: &[u8], path: &[u8]) -> Result<Text, AllocError>
+    ensures { IfOk result (λ text. text ≡ prefix.now ++ path.now) }
 {
     let mut writer = Writer::new(alloc);
-    writer.put_raw(front)?;
+    writer.put_raw(prefix)?;
     writer.put_raw(path)?;
     Ok(writer.into_text())
 }

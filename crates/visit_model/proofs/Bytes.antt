@@ -20,14 +20,14 @@ parts_fit bytes n usage h e =
     let whole : IsRecord n usage bytes = IfOk-at_ok (λ r. IsRecord r.0 r.1 bytes) e (record_in-found bytes h).given in
     whole.fields
 
-AreNibbles-append : (front path : List ℕ) → AreNibbles front → AreNibbles path → AreNibbles (front ++ path)
+AreNibbles-append : (prefix path : List ℕ) → AreNibbles prefix → AreNibbles path → AreNibbles (prefix ++ path)
 AreNibbles-append [] path h k = k
-AreNibbles-append (x ∷ front) path h k = (h.0, AreNibbles-append front path h.1 k)
+AreNibbles-append (x ∷ prefix) path h k = (h.0, AreNibbles-append prefix path h.1 k)
 
 pub nibbles-seen : (table : Table) (root : List ℕ) → AreByteTexts table → AllByRecursion (λ name. AreNibbles name.0) (named_in (seen table root))
 nibbles-seen table root bytes = all_seen table (λ depth name. AreNibbles name.0) (record {
   leaf = λ depth after_extension path ref h. (parts_fit h.text (node.leaf path ref) h.usage (bytes h.digest h.text h.held) h.spells).0;
   here = λ depth after_extension ref kids h. tt;
-  kid = λ depth x name small k. (small, k);
+  child = λ depth x name small k. (small, k);
   child = λ depth after_extension path child h name k. AreNibbles-append path name.0 (parts_fit h.text (node.extension path child) h.usage (bytes h.digest h.text h.held) h.spells).0 k;
 }) root

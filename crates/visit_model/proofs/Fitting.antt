@@ -7,11 +7,11 @@ use Rattle.std.proofs.lemmas.Bool.Decides.{nat_tests}
 use Rattle.byte_model.specs.Below.{joined_below}
 use Rattle.byte_model.specs.PackedPath.{longest_path}
 use Rattle.byte_model.specs.Node as node
-use Rattle.byte_model.specs.Node.{Node, ValueRef, longest_value, kid_count}
+use Rattle.byte_model.specs.Node.{Node, ValueRef, longest_value, child_count}
 use Rattle.record_model.specs.Records.{RecordFault, record_in}
 use Rattle.record_model.specs.Fits.{is_whole, has_place, fits_at}
 use Rattle.trie_model.specs.Root.{Table, zero_digest}
-use Rattle.visit_model.specs.Seen.{Seen, nothing, bad, Looks, seen_kid, seen_node, seen_record, seen_text, seen_within, seen_at, seen}
+use Rattle.visit_model.specs.Seen.{Seen, nothing, bad, Looks, seen_child, seen_node, seen_record, seen_text, seen_within, seen_at, seen}
 use Rattle.visit_model.proofs.Rows.{Named, beneath, name_here, named_in}
 
 -- ---- a property that passes from each node to its parent
@@ -29,12 +29,12 @@ pub record WasRead (table : Table) (depth : ℕ) (after_extension : Bool) (n : N
 pub record PassesUp (table : Table) (P : ℕ → Named → Type 0) : Type 0 where
   pub leaf : (depth : ℕ) (after_extension : Bool) (path : List ℕ) (ref : ValueRef) → WasRead table depth after_extension (node.leaf path ref) → P depth (path, ref)
   pub here : (depth : ℕ) (after_extension : Bool) (ref : ValueRef) (kids : ℕ → Option (List ℕ)) → WasRead table depth after_extension (node.branch (Some ref) kids) → P depth ([], ref)
-  pub kid : (depth x : ℕ) (name : Named) → x < 16 → P (depth + 1) name → P depth (x ∷ name.0, name.1)
+  pub child : (depth x : ℕ) (name : Named) → x < 16 → P (depth + 1) name → P depth (x ∷ name.0, name.1)
   pub child : (depth : ℕ) (after_extension : Bool) (path child : List ℕ) → WasRead table depth after_extension (node.extension path child) → (name : Named) → P (depth + length path) name → P depth (path ++ name.0, name.1)
 
-all-beneath : (P Q : Named → Type 0) (front : List ℕ) → ((name : Named) → P name → Q (front ++ name.0, name.1)) → (names : List Named) → AllByRecursion P names → AllByRecursion Q (beneath front names)
-all-beneath P Q front step [] h = tt
-all-beneath P Q front step (name ∷ names) h = (step name h.0, all-beneath P Q front step names h.1)
+all-beneath : (P Q : Named → Type 0) (prefix : List ℕ) → ((name : Named) → P name → Q (prefix ++ name.0, name.1)) → (names : List Named) → AllByRecursion P names → AllByRecursion Q (beneath prefix names)
+all-beneath P Q prefix step [] h = tt
+all-beneath P Q prefix step (name ∷ names) h = (step name h.0, all-beneath P Q prefix step names h.1)
 
 all-append : (P : Named → Type 0) (names others : List Named) → AllByRecursion P names → AllByRecursion P others → AllByRecursion P (names ++ others)
 all-append P [] others h k = k
@@ -50,10 +50,10 @@ module _ (table : Table) (P : ℕ → Named → Type 0) (passes : PassesUp table
   abbrev LooksSo : Looks → Type 0
   LooksSo look = (depth : ℕ) (after_extension : Bool) (digest : List ℕ) → AllByRecursion (P depth) (named_in (look depth after_extension digest))
 
-  all_of_kid : (look : Looks) → LooksSo look → (depth : ℕ) (kid : Option (List ℕ)) → AllByRecursion (P (depth + 1)) (named_in (seen_kid (look (depth + 1) false) kid))
-  unfolding seen_kid named_in
-  all_of_kid look so depth None = tt
-  all_of_kid look so depth (Some digest) = so (depth + 1) false digest
+  all_of_child : (look : Looks) → LooksSo look → (depth : ℕ) (child : Option (List ℕ)) → AllByRecursion (P (depth + 1)) (named_in (seen_child (look (depth + 1) false) child))
+  unfolding seen_child named_in
+  all_of_child look so depth None = tt
+  all_of_child look so depth (Some digest) = so (depth + 1) false digest
 
   all_here : (depth : ℕ) (after_extension : Bool) (value : Option ValueRef) (kids : ℕ → Option (List ℕ)) → WasRead table depth after_extension (node.branch value kids) → AllByRecursion (P depth) (name_here value)
   all_here depth after_extension None kids h = tt
@@ -63,9 +63,9 @@ module _ (table : Table) (P : ℕ → Named → Type 0) (passes : PassesUp table
   unfolding seen_node named_in
   all_of_node look so depth after_extension digest (node.leaf path ref) usage h = (passes.leaf depth after_extension path ref h, tt)
   all_of_node look so depth after_extension digest (node.branch value kids) usage h =
-      let kid : ℕ → Seen = λ x. seen_kid (look (depth + 1) false) (kids x) in
-      all-append (P depth) (name_here value) (joined_below (λ x. beneath (x ∷ []) (named_in (kid x))) 16) (all_here depth after_extension value kids h)
-      (all-joined_below (P depth) (λ x. beneath (x ∷ []) (named_in (kid x))) 16 (λ x small. all-beneath (P (depth + 1)) (P depth) (x ∷ []) (λ name k. passes.kid depth x name small k) (named_in (kid x)) (all_of_kid look so depth (kids x))))
+      let child : ℕ → Seen = λ x. seen_child (look (depth + 1) false) (kids x) in
+      all-append (P depth) (name_here value) (joined_below (λ x. beneath (x ∷ []) (named_in (child x))) 16) (all_here depth after_extension value kids h)
+      (all-joined_below (P depth) (λ x. beneath (x ∷ []) (named_in (child x))) 16 (λ x small. all-beneath (P (depth + 1)) (P depth) (x ∷ []) (λ name k. passes.child depth x name small k) (named_in (child x)) (all_of_child look so depth (kids x))))
   all_of_node look so depth after_extension digest (node.extension path child) usage h =
       all-beneath (P (depth + length path)) (P depth) path (passes.child depth after_extension path child h) (named_in (look (depth + length path) true child)) (so (depth + length path) true child)
 
@@ -101,7 +101,7 @@ module _ (table : Table) (P : ℕ → Named → Type 0) (passes : PassesUp table
 pub record NameFits (depth : ℕ) (name : Named) : Type 0 where
   pub whole : (depth + length name.0) % 2 ≡ 0
   pub path_length : depth + length name.0 ≤ longest_path
-  pub value_length : name.1.size ≤ longest_value
+  pub value_length : name.1.length ≤ longest_value
 
 both_first : (a b : Bool) → (a && b) ≡ true → a ≡ true
 both_first true b h = refl
@@ -124,38 +124,38 @@ fits_leaf : (depth : ℕ) (after_extension : Bool) (path : List ℕ) (ref : Valu
 unfolding has_place
 fits_leaf depth after_extension path ref h =
     let n : ℕ = depth + length path in
-    let place = both_second (nat_le ref.size longest_value) (is_whole n && nat_le n longest_path && not after_extension) h in
+    let place = both_second (nat_le ref.length longest_value) (is_whole n && nat_le n longest_path && not after_extension) h in
     let ends = both_first (is_whole n && nat_le n longest_path) (not after_extension) place in
     record {
       whole = is_whole-even n (both_first (is_whole n) (nat_le n longest_path) ends);
       path_length = nat_le-le n longest_path (both_second (is_whole n) (nat_le n longest_path) ends);
-      value_length = nat_le-le ref.size longest_value (both_first (nat_le ref.size longest_value) (is_whole n && nat_le n longest_path && not after_extension) h);
+      value_length = nat_le-le ref.length longest_value (both_first (nat_le ref.length longest_value) (is_whole n && nat_le n longest_path && not after_extension) h);
     }
 
 fits_here : (depth : ℕ) (after_extension : Bool) (ref : ValueRef) (kids : ℕ → Option (List ℕ)) → fits_at depth after_extension (node.branch (Some ref) kids) ≡ true → NameFits depth ([], ref)
 unfolding has_place
 fits_here depth after_extension ref kids h =
-    let shape = both_first (nat_le ref.size longest_value && nat_le 1 (kid_count kids)) (nat_lt depth longest_path && is_whole depth) h in
-    let place = both_second (nat_le ref.size longest_value && nat_le 1 (kid_count kids)) (nat_lt depth longest_path && is_whole depth) h in
+    let shape = both_first (nat_le ref.length longest_value && nat_le 1 (child_count kids)) (nat_lt depth longest_path && is_whole depth) h in
+    let place = both_second (nat_le ref.length longest_value && nat_le 1 (child_count kids)) (nat_lt depth longest_path && is_whole depth) h in
     let inside : depth < longest_path = nat_lt-lt depth longest_path (both_first (nat_lt depth longest_path) (is_whole depth) place) in
     let even : depth % 2 ≡ 0 = is_whole-even depth (both_second (nat_lt depth longest_path) (is_whole depth) place) in
     record {
       whole = omega arith;
       path_length = omega arith;
-      value_length = nat_le-le ref.size longest_value (both_first (nat_le ref.size longest_value) (nat_le 1 (kid_count kids)) shape);
+      value_length = nat_le-le ref.length longest_value (both_first (nat_le ref.length longest_value) (nat_le 1 (child_count kids)) shape);
     }
 
-fits_behind : (depth : ℕ) (front : List ℕ) (name : Named) → NameFits (depth + length front) name → NameFits depth (front ++ name.0, name.1)
-fits_behind depth front name h =
-    let long = length-append front name.0 in
-    let same : (depth + length front) + length name.0 ≡ depth + length (front ++ name.0) = omega arith in
-    let fits : (depth + length front) + length name.0 ≤ longest_path = h.path_length in
+fits_behind : (depth : ℕ) (prefix : List ℕ) (name : Named) → NameFits (depth + length prefix) name → NameFits depth (prefix ++ name.0, name.1)
+fits_behind depth prefix name h =
+    let long = length-append prefix name.0 in
+    let same : (depth + length prefix) + length name.0 ≡ depth + length (prefix ++ name.0) = omega arith in
+    let fits : (depth + length prefix) + length name.0 ≤ longest_path = h.path_length in
     record { whole = ap (λ n. n % 2) (sym same) ∙ h.whole; path_length = omega arith; value_length = h.value_length }
 
 pub fit-seen : (table : Table) (root : List ℕ) → AllByRecursion (NameFits 0) (named_in (seen table root))
 fit-seen table root = all_seen table NameFits (record {
   leaf = λ depth after_extension path ref h. fits_leaf depth after_extension path ref h.fits;
   here = λ depth after_extension ref kids h. fits_here depth after_extension ref kids h.fits;
-  kid = λ depth x name small h. fits_behind depth (x ∷ []) name h;
+  child = λ depth x name small h. fits_behind depth (x ∷ []) name h;
   child = λ depth after_extension path child h name k. fits_behind depth path name k;
 }) root

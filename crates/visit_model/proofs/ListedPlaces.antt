@@ -21,12 +21,12 @@ use Rattle.trie_model.proofs.Rests.{below-nil, below-append}
 use Rattle.trie_model.proofs.Trees.{tree_of-nil, tree_of-one, tree_of-forks, tree_of-shares, by_cases}
 use Rattle.visit_model.specs.Seen.{seen}
 use Rattle.visit_model.specs.Shown.{shown}
-use Rattle.visit_model.specs.Steps.{Step, value, behind as behind_front, bound_behind, reached_steps, listing_steps}
+use Rattle.visit_model.specs.Steps.{Step, value, behind as behind_prefix, bound_behind, reached_steps, listing_steps}
 use Rattle.visit_model.specs.Bounds.{reaches}
 use Rattle.visit_model.specs.Listed.{is_listed_place, row_steps, place_steps}
 use Rattle.visit_model.proofs.Joins.{filter-joined_below, flat_map-joined_below}
 use Rattle.visit_model.proofs.Lookups.{node_of_tree}
-use Rattle.visit_model.proofs.Rows.{reaches_behind, reaches-front}
+use Rattle.visit_model.proofs.Rows.{reaches_behind, reaches-prefix}
 use Rattle.visit_model.proofs.ShownStates.{state_seen}
 
 -- ---- the places that a listing goes to
@@ -40,13 +40,13 @@ unfolding bound_behind
 bound_behind-empty [] = refl
 bound_behind-empty (x ∷ place) = refl
 
-bound_behind-append : (front place bound : List ℕ) → bound_behind (front ++ place) bound ≡ option_and_then (bound_behind place) (bound_behind front bound)
+bound_behind-append : (prefix place bound : List ℕ) → bound_behind (prefix ++ place) bound ≡ option_and_then (bound_behind place) (bound_behind prefix bound)
 unfolding bound_behind
 bound_behind-append [] place bound = refl
-bound_behind-append (x ∷ front) place [] = sym (bound_behind-empty place)
-bound_behind-append (x ∷ front) place (y ∷ bound) = go (x == y) (nat_lt x y) (bound_behind-append front place bound)
+bound_behind-append (x ∷ prefix) place [] = sym (bound_behind-empty place)
+bound_behind-append (x ∷ prefix) place (y ∷ bound) = go (x == y) (nat_lt x y) (bound_behind-append prefix place bound)
   where
-    go : (b c : Bool) → bound_behind (front ++ place) bound ≡ option_and_then (bound_behind place) (bound_behind front bound) → (if b then bound_behind (front ++ place) bound else if c then None else Some []) ≡ option_and_then (bound_behind place) (if b then bound_behind front bound else if c then None else Some [])
+    go : (b c : Bool) → bound_behind (prefix ++ place) bound ≡ option_and_then (bound_behind place) (bound_behind prefix bound) → (if b then bound_behind (prefix ++ place) bound else if c then None else Some []) ≡ option_and_then (bound_behind place) (if b then bound_behind prefix bound else if c then None else Some [])
     go true c further = further
     go false true further = refl
     go false false further = sym (bound_behind-empty place)
@@ -68,7 +68,7 @@ is_met-listed (y ∷ bound) (x ∷ place) = go (nat_lt x y) (x == y) refl refl (
 
 -- ---- the steps at a place
 
--- the value of a row that reaches the bound, where all paths stand behind a front
+-- the value of a row that reaches the bound, where all paths stand behind a prefix
 abbrev from_row : List ℕ → List ℕ → Option Row → List Step
 from_row before bound None = []
 from_row before bound (Some row) = if reaches bound row.0 then value (before ++ row.0) (value_ref row.1) ∷ [] else []
@@ -84,7 +84,7 @@ reached-value : (path rest : List ℕ) (ref : ValueRef) (bound : List ℕ) → r
 unfolding reached_steps
 reached-value path rest ref bound =
     go (bound_behind rest bound)
-    ∙ ap (λ b. if b then value path ref ∷ [] else []) (sym (reaches-front rest bound []) ∙ ap (reaches bound) (append-nil rest))
+    ∙ ap (λ b. if b then value path ref ∷ [] else []) (sym (reaches-prefix rest bound []) ∙ ap (reaches bound) (append-nil rest))
   where
     go : (o : Option (List ℕ)) → reached_steps path (Some ref) o ≡ (if reaches_behind o [] then value path ref ∷ [] else [])
     go None = refl
@@ -102,42 +102,42 @@ top_steps rows tree before bound e =
     same None = refl
     same (Some row) = refl
 
--- those behind a front, by what is left of the bound there
-steps_at-behind : (rows : List Row) (front before bound left place : List ℕ) → bound_behind front bound ≡ Some left → steps_at rows before bound (front ++ place) ≡ steps_at (below front rows) (before ++ front) left place
-steps_at-behind rows front before bound left place e =
-    ap (λ rs. node_of_tree (tree_of rs) ∷ from_row before bound (option_map (prefixed (front ++ place)) (held_by (tree_of rs)))) (below-append front place rows)
-    ∙ ap (λ (steps : List Step). node_of_tree (tree_of (below place (below front rows))) ∷ steps) (go (held_by (tree_of (below place (below front rows)))))
+-- those behind a prefix, by what is left of the bound there
+steps_at-behind : (rows : List Row) (prefix before bound left place : List ℕ) → bound_behind prefix bound ≡ Some left → steps_at rows before bound (prefix ++ place) ≡ steps_at (below prefix rows) (before ++ prefix) left place
+steps_at-behind rows prefix before bound left place e =
+    ap (λ rs. node_of_tree (tree_of rs) ∷ from_row before bound (option_map (prefixed (prefix ++ place)) (held_by (tree_of rs)))) (below-append prefix place rows)
+    ∙ ap (λ (steps : List Step). node_of_tree (tree_of (below place (below prefix rows))) ∷ steps) (go (held_by (tree_of (below place (below prefix rows)))))
   where
-    go : (o : Option Row) → from_row before bound (option_map (prefixed (front ++ place)) o) ≡ from_row (before ++ front) left (option_map (prefixed place) o)
+    go : (o : Option Row) → from_row before bound (option_map (prefixed (prefix ++ place)) o) ≡ from_row (before ++ prefix) left (option_map (prefixed place) o)
     go None = refl
     go (Some row) =
         let path : List ℕ = place ++ row.0 in
-        ap (λ (p : List ℕ). if reaches bound p then value (before ++ p) (value_ref row.1) ∷ [] else []) (append_assoc front place row.0)
-        ∙ ap₂ (λ b (p : List ℕ). if b then value p (value_ref row.1) ∷ [] else []) (reaches-front front bound path ∙ ap (λ o. reaches_behind o path) e) (sym (append_assoc before front path))
+        ap (λ (p : List ℕ). if reaches bound p then value (before ++ p) (value_ref row.1) ∷ [] else []) (append_assoc prefix place row.0)
+        ∙ ap₂ (λ b (p : List ℕ). if b then value p (value_ref row.1) ∷ [] else []) (reaches-prefix prefix bound path ∙ ap (λ o. reaches_behind o path) e) (sym (append_assoc before prefix path))
 
-listed-behind : (rows : List Row) (front before bound : List ℕ) (paths : List (List ℕ)) → flat_map (steps_at rows before bound) (filter (is_met bound) (behind front paths)) ≡ behind_front (λ left. flat_map (steps_at (below front rows) (before ++ front) left) (filter (is_met left) paths)) (bound_behind front bound)
-unfolding behind_front
-listed-behind rows front before bound paths = go (bound_behind front bound) refl paths
+listed-behind : (rows : List Row) (prefix before bound : List ℕ) (paths : List (List ℕ)) → flat_map (steps_at rows before bound) (filter (is_met bound) (behind prefix paths)) ≡ behind_prefix (λ left. flat_map (steps_at (below prefix rows) (before ++ prefix) left) (filter (is_met left) paths)) (bound_behind prefix bound)
+unfolding behind_prefix
+listed-behind rows prefix before bound paths = go (bound_behind prefix bound) refl paths
   where
-    met : (o : Option (List ℕ)) → bound_behind front bound ≡ o → (place : List ℕ) → is_met bound (front ++ place) ≡ is_some (option_and_then (bound_behind place) o)
-    met o e place = ap is_some (bound_behind-append front place bound ∙ ap (option_and_then (bound_behind place)) e)
+    met : (o : Option (List ℕ)) → bound_behind prefix bound ≡ o → (place : List ℕ) → is_met bound (prefix ++ place) ≡ is_some (option_and_then (bound_behind place) o)
+    met o e place = ap is_some (bound_behind-append prefix place bound ∙ ap (option_and_then (bound_behind place)) e)
 
-    none : bound_behind front bound ≡ None → (ps : List (List ℕ)) → filter (is_met bound) (behind front ps) ≡ []
+    none : bound_behind prefix bound ≡ None → (ps : List (List ℕ)) → filter (is_met bound) (behind prefix ps) ≡ []
     none e [] = refl
-    none e (p ∷ ps) = ap₂ (λ b (others : List (List ℕ)). cond b ((front ++ p) ∷ others) others) (met None e p) (none e ps)
+    none e (p ∷ ps) = ap₂ (λ b (others : List (List ℕ)). cond b ((prefix ++ p) ∷ others) others) (met None e p) (none e ps)
 
-    some : (left : List ℕ) → bound_behind front bound ≡ Some left → (ps : List (List ℕ)) → flat_map (steps_at rows before bound) (filter (is_met bound) (behind front ps)) ≡ flat_map (steps_at (below front rows) (before ++ front) left) (filter (is_met left) ps)
+    some : (left : List ℕ) → bound_behind prefix bound ≡ Some left → (ps : List (List ℕ)) → flat_map (steps_at rows before bound) (filter (is_met bound) (behind prefix ps)) ≡ flat_map (steps_at (below prefix rows) (before ++ prefix) left) (filter (is_met left) ps)
     some left e [] = refl
     some left e (p ∷ ps) =
         let further = some left e ps in
-        let others : List (List ℕ) = filter (is_met bound) (behind front ps) in
-        ap (λ b. flat_map (steps_at rows before bound) (cond b ((front ++ p) ∷ others) others)) (met (Some left) e p)
-        ∙ elim (is_met left p) as (λ b. flat_map (steps_at rows before bound) (cond b ((front ++ p) ∷ others) others) ≡ flat_map (steps_at (below front rows) (before ++ front) left) (cond b (p ∷ filter (is_met left) ps) (filter (is_met left) ps))) [
-          | true ↦ ap₂ (λ (a c : List Step). a ++ c) (steps_at-behind rows front before bound left p e) further
+        let others : List (List ℕ) = filter (is_met bound) (behind prefix ps) in
+        ap (λ b. flat_map (steps_at rows before bound) (cond b ((prefix ++ p) ∷ others) others)) (met (Some left) e p)
+        ∙ elim (is_met left p) as (λ b. flat_map (steps_at rows before bound) (cond b ((prefix ++ p) ∷ others) others) ≡ flat_map (steps_at (below prefix rows) (before ++ prefix) left) (cond b (p ∷ filter (is_met left) ps) (filter (is_met left) ps))) [
+          | true ↦ ap₂ (λ (a c : List Step). a ++ c) (steps_at-behind rows prefix before bound left p e) further
           | false ↦ further
         ]
 
-    go : (o : Option (List ℕ)) → bound_behind front bound ≡ o → (ps : List (List ℕ)) → flat_map (steps_at rows before bound) (filter (is_met bound) (behind front ps)) ≡ behind_front (λ left. flat_map (steps_at (below front rows) (before ++ front) left) (filter (is_met left) ps)) o
+    go : (o : Option (List ℕ)) → bound_behind prefix bound ≡ o → (ps : List (List ℕ)) → flat_map (steps_at rows before bound) (filter (is_met bound) (behind prefix ps)) ≡ behind_prefix (λ left. flat_map (steps_at (below prefix rows) (before ++ prefix) left) (filter (is_met left) ps)) o
     go None e ps = ap (flat_map (steps_at rows before bound)) (none e ps)
     go (Some left) e ps = some left e ps
 
@@ -146,15 +146,15 @@ listed-behind rows front before bound paths = go (bound_behind front bound) refl
 abbrev Listed : List Row → Type 0
 Listed rows = (before bound : List ℕ) → listing_steps (shown (tree_of rows)) before bound ≡ listed rows (tree_of rows) before bound
 
--- the listing of a child behind a front
-child_listed : (rows : List Row) (front : List ℕ) → Listed (below front rows) → (before bound : List ℕ) → behind_front (listing_steps (shown (tree_of (below front rows))) (before ++ front)) (bound_behind front bound) ≡ flat_map (steps_at rows before bound) (filter (is_met bound) (behind front (places (tree_of (below front rows)))))
-unfolding behind_front
-child_listed rows front further before bound =
-    go (bound_behind front bound) ∙ sym (listed-behind rows front before bound (places (tree_of (below front rows))))
+-- the listing of a child behind a prefix
+child_listed : (rows : List Row) (prefix : List ℕ) → Listed (below prefix rows) → (before bound : List ℕ) → behind_prefix (listing_steps (shown (tree_of (below prefix rows))) (before ++ prefix)) (bound_behind prefix bound) ≡ flat_map (steps_at rows before bound) (filter (is_met bound) (behind prefix (places (tree_of (below prefix rows)))))
+unfolding behind_prefix
+child_listed rows prefix further before bound =
+    go (bound_behind prefix bound) ∙ sym (listed-behind rows prefix before bound (places (tree_of (below prefix rows))))
   where
-    go : (o : Option (List ℕ)) → behind_front (listing_steps (shown (tree_of (below front rows))) (before ++ front)) o ≡ behind_front (λ left. listed (below front rows) (tree_of (below front rows)) (before ++ front) left) o
+    go : (o : Option (List ℕ)) → behind_prefix (listing_steps (shown (tree_of (below prefix rows))) (before ++ prefix)) o ≡ behind_prefix (λ left. listed (below prefix rows) (tree_of (below prefix rows)) (before ++ prefix) left) o
     go None = refl
-    go (Some left) = further (before ++ front) left
+    go (Some left) = further (before ++ prefix) left
 
 listed_none : Listed []
 unfolding shown listing_steps places
@@ -188,20 +188,20 @@ listed_branch rows v e further before bound =
         none (y ∷ b) = refl
     here (Some w) = reached-value before [] (value_ref w) bound ∙ ap (λ (p : List ℕ). if reaches bound [] then value p (value_ref w) ∷ [] else []) (sym (append-nil before))
 
-listed_extension : (rows : List Row) (front : List ℕ) → tree_of rows ≡ extension front (tree_of (below front rows)) → Listed (below front rows) → Listed rows
+listed_extension : (rows : List Row) (prefix : List ℕ) → tree_of rows ≡ extension prefix (tree_of (below prefix rows)) → Listed (below prefix rows) → Listed rows
 unfolding shown listing_steps places bound_behind held_by
-listed_extension rows front e further before bound =
-    let child : Tree = tree_of (below front rows) in
+listed_extension rows prefix e further before bound =
+    let child : Tree = tree_of (below prefix rows) in
     subst (λ t. listing_steps (shown t) before bound ≡ listed rows t before bound) (sym e)
-    (ap (λ (steps : List Step). node_of_tree (extension front child) ∷ steps) (child_listed rows front further before bound)
-    ∙ ap (λ (steps : List Step). steps ++ flat_map (steps_at rows before bound) (filter (is_met bound) (behind front (places child)))) (sym (top_steps rows (extension front child) before bound e)))
+    (ap (λ (steps : List Step). node_of_tree (extension prefix child) ∷ steps) (child_listed rows prefix further before bound)
+    ∙ ap (λ (steps : List Step). steps ++ flat_map (steps_at rows before bound) (filter (is_met bound) (behind prefix (places child)))) (sym (top_steps rows (extension prefix child) before bound e)))
 
 listed_rows : (rows : List Row) → Listed rows
 listed_rows = by_cases Listed (record {
   none = listed_none;
   one = listed_one;
   forks = λ row next rows e further. listed_branch (row ∷ next ∷ rows) _ (tree_of-forks row next rows e) further;
-  shares = λ row next rows x front e further. listed_extension (row ∷ next ∷ rows) (x ∷ front) (tree_of-shares row next rows x front e) further;
+  shares = λ row next rows x prefix e further. listed_extension (row ∷ next ∷ rows) (x ∷ prefix) (tree_of-shares row next rows x prefix e) further;
 })
 
 -- ---- of a state

@@ -36,9 +36,9 @@ use Rattle.visit_model.proofs.Rows.{Named, beneath, beneath-nil, name_here, name
 abbrev name_of_row : Row → Named
 name_of_row row = (row.0, value_ref row.1)
 
-beneath-under : (front : List ℕ) (rows : List Row) → beneath front (map name_of_row rows) ≡ map name_of_row (under front rows)
-beneath-under front [] = refl
-beneath-under front (row ∷ rows) = ap (λ (names : List Named). (front ++ row.0, value_ref row.1) ∷ names) (beneath-under front rows)
+beneath-under : (prefix : List ℕ) (rows : List Row) → beneath prefix (map name_of_row rows) ≡ map name_of_row (under prefix rows)
+beneath-under prefix [] = refl
+beneath-under prefix (row ∷ rows) = ap (λ (names : List Named). (prefix ++ row.0, value_ref row.1) ∷ names) (beneath-under prefix rows)
 
 named_in-shown : (t : Tree) → named_in (shown t) ≡ map name_of_row (held t)
 unfolding named_in shown held

@@ -18,12 +18,12 @@ use Rattle.trie_model.specs.Root.{Table, Holds, root, subtree_at, text_at, place
 use Rattle.trie_model.proofs.Worked.{Pair, rows_of_pairs}
 use Rattle.trie_model.proofs.Costs.{subtree_at-root}
 use Rattle.trie_model.proofs.Places.{at_place, map-behind}
-use Rattle.trie_model.proofs.Rests.{same_nibble, rest_behind-append, rest_behind-front, front_and_rest, below-nil, below-append, AllHaveFront, common_front-all}
+use Rattle.trie_model.proofs.Rests.{same_nibble, rest_behind-append, rest_behind-prefix, prefix_and_rest, below-nil, below-append, AllHavePrefix, common_prefix-all}
 use Rattle.trie_model.proofs.Trees.{tree_of-nil, tree_of-one, tree_of-forks, tree_of-shares, by_cases}
 use Rattle.visit_model.specs.Shown.{shown}
-use Rattle.visit_model.specs.Steps.{Step, node, value, value_steps, behind as behind_front, lookup_steps}
+use Rattle.visit_model.specs.Steps.{Step, node, value, value_steps, behind as behind_prefix, lookup_steps}
 use Rattle.visit_model.specs.Visits.{Visits, no_visits, node_first, visits_of, lookup_visits}
-use Rattle.visit_model.specs.Bounds.{has_front, at_most_one}
+use Rattle.visit_model.specs.Bounds.{has_prefix, at_most_one}
 use Rattle.visit_model.proofs.ShownStates.{state_seen}
 use Rattle.visit_model.proofs.Values.{HeldValue, value_visit-held, held_values}
 use Rattle.visit_model.proofs.Joins.{filter-joined_below, joined_below-empty, joined_below-only}
@@ -37,7 +37,7 @@ row_at rows path = ends_here (below path rows)
 pub row_at-same : (row : Row) (rows : List Row) (path : List ℕ) → row.0 ≡ path → row_at (row ∷ rows) path ≡ Some row.1
 unfolding below ends_here
 row_at-same row rows path e =
-    let rest : rest_behind path row.0 ≡ Some [] = ap (rest_behind path) (e ∙ sym (append-nil path)) ∙ rest_behind-front path [] in
+    let rest : rest_behind path row.0 ≡ Some [] = ap (rest_behind path) (e ∙ sym (append-nil path)) ∙ rest_behind-prefix path [] in
     rw rest refl
 
 pub row_at-other : (row : Row) (rows : List Row) (path : List ℕ) → row.0 ≢ path → row_at (row ∷ rows) path ≡ row_at rows path
@@ -46,19 +46,19 @@ row_at-other row rows path apart = go (rest_behind path row.0) refl
   where
     go : (r : Option (List ℕ)) → rest_behind path row.0 ≡ r → ends_here (cons_option (option_map (λ rest. (rest, row.1)) r) (below path rows)) ≡ ends_here (below path rows)
     go None e = refl
-    go (Some []) e = absurd (apart (front_and_rest path row.0 [] e ∙ append-nil path))
+    go (Some []) e = absurd (apart (prefix_and_rest path row.0 [] e ∙ append-nil path))
     go (Some (y ∷ rest)) e = refl
 
--- of rows with a front, there is none at a path without it
-row_at-outside : (front path : List ℕ) (rows : List Row) → AllHaveFront front rows → rest_behind front path ≡ None → row_at rows path ≡ None
+-- of rows with a prefix, there is none at a path without it
+row_at-outside : (prefix path : List ℕ) (rows : List Row) → AllHavePrefix prefix rows → rest_behind prefix path ≡ None → row_at rows path ≡ None
 unfolding below ends_here
-row_at-outside front path [] all e = refl
-row_at-outside front path (row ∷ rows) all e =
-    row_at-other row rows path (λ same. no_front (sym e ∙ ap (rest_behind front) (sym same ∙ all.0.1) ∙ rest_behind-front front all.0.0))
-    ∙ row_at-outside front path rows all.1 e
+row_at-outside prefix path [] all e = refl
+row_at-outside prefix path (row ∷ rows) all e =
+    row_at-other row rows path (λ same. no_prefix (sym e ∙ ap (rest_behind prefix) (sym same ∙ all.0.1) ∙ rest_behind-prefix prefix all.0.0))
+    ∙ row_at-outside prefix path rows all.1 e
   where
-    no_front : None ≡ Some all.0.0 → ⊥
-    no_front h = cc
+    no_prefix : None ≡ Some all.0.0 → ⊥
+    no_prefix h = cc
 
 -- and what holds of the values of all rows holds of its value
 row_at-all : (P : List ℕ → Type 0) (rows : List Row) (path : List ℕ) → AllByRecursion (λ row. P row.1) rows → IfSome (row_at rows path) P
@@ -73,40 +73,40 @@ row_at-all P (row ∷ rows) path all = go (rest_behind path row.0) (row_at-all P
 
 -- ---- the places on a path
 
--- those of a subtree that stands behind a front, by what is left of the path behind it
+-- those of a subtree that stands behind a prefix, by what is left of the path behind it
 abbrev kept_behind : List ℕ → Option (List ℕ) → List (List ℕ) → List (List ℕ)
-kept_behind front None paths = []
-kept_behind front (Some rest) paths = behind front (filter (has_front rest) paths)
+kept_behind prefix None paths = []
+kept_behind prefix (Some rest) paths = behind prefix (filter (has_prefix rest) paths)
 
-filter-behind : (front path : List ℕ) (paths : List (List ℕ)) → filter (has_front path) (behind front paths) ≡ kept_behind front (rest_behind front path) paths
-filter-behind front path [] = none (rest_behind front path)
+filter-behind : (prefix path : List ℕ) (paths : List (List ℕ)) → filter (has_prefix path) (behind prefix paths) ≡ kept_behind prefix (rest_behind prefix path) paths
+filter-behind prefix path [] = none (rest_behind prefix path)
   where
-    none : (r : Option (List ℕ)) → [] ≡ kept_behind front r []
+    none : (r : Option (List ℕ)) → [] ≡ kept_behind prefix r []
     none None = refl
     none (Some rest) = refl
-filter-behind front path (p ∷ paths) =
-    ap₂ (λ (r : Option (List ℕ)) (ps : List (List ℕ)). cond (is_some r) ((front ++ p) ∷ ps) ps) (rest_behind-append front p path) (filter-behind front path paths)
-    ∙ step (rest_behind front path)
+filter-behind prefix path (p ∷ paths) =
+    ap₂ (λ (r : Option (List ℕ)) (ps : List (List ℕ)). cond (is_some r) ((prefix ++ p) ∷ ps) ps) (rest_behind-append prefix p path) (filter-behind prefix path paths)
+    ∙ step (rest_behind prefix path)
   where
-    step : (r : Option (List ℕ)) → cond (is_some (option_and_then (rest_behind p) r)) ((front ++ p) ∷ kept_behind front r paths) (kept_behind front r paths) ≡ kept_behind front r (p ∷ paths)
+    step : (r : Option (List ℕ)) → cond (is_some (option_and_then (rest_behind p) r)) ((prefix ++ p) ∷ kept_behind prefix r paths) (kept_behind prefix r paths) ≡ kept_behind prefix r (p ∷ paths)
     step None = refl
     step (Some rest) =
-        elim (is_some (rest_behind p rest)) as (λ b. cond b ((front ++ p) ∷ behind front (filter (has_front rest) paths)) (behind front (filter (has_front rest) paths)) ≡ behind front (cond b (p ∷ filter (has_front rest) paths) (filter (has_front rest) paths))) [
+        elim (is_some (rest_behind p rest)) as (λ b. cond b ((prefix ++ p) ∷ behind prefix (filter (has_prefix rest) paths)) (behind prefix (filter (has_prefix rest) paths)) ≡ behind prefix (cond b (p ∷ filter (has_prefix rest) paths) (filter (has_prefix rest) paths))) [
           | true ↦ refl
           | false ↦ refl
         ]
 
 -- of the subtrees of a branch, those at the first nibble of the path alone
-kept_nowhere : (kids : ℕ → List (List ℕ)) → filter (has_front []) (joined_below (λ x. behind (x ∷ []) (kids x)) 16) ≡ []
+kept_nowhere : (kids : ℕ → List (List ℕ)) → filter (has_prefix []) (joined_below (λ x. behind (x ∷ []) (kids x)) 16) ≡ []
 unfolding rest_behind
 kept_nowhere kids =
-    filter-joined_below (has_front []) (λ x. behind (x ∷ []) (kids x)) 16
+    filter-joined_below (has_prefix []) (λ x. behind (x ∷ []) (kids x)) 16
     ∙ joined_below-empty _ 16 (λ x h. filter-behind (x ∷ []) [] (kids x))
 
-kept_at : (y : ℕ) (path : List ℕ) (kids : ℕ → List (List ℕ)) → y < 16 → filter (has_front (y ∷ path)) (joined_below (λ x. behind (x ∷ []) (kids x)) 16) ≡ behind (y ∷ []) (filter (has_front path) (kids y))
+kept_at : (y : ℕ) (path : List ℕ) (kids : ℕ → List (List ℕ)) → y < 16 → filter (has_prefix (y ∷ path)) (joined_below (λ x. behind (x ∷ []) (kids x)) 16) ≡ behind (y ∷ []) (filter (has_prefix path) (kids y))
 unfolding rest_behind
 kept_at y path kids small =
-    filter-joined_below (has_front (y ∷ path)) (λ x. behind (x ∷ []) (kids x)) 16
+    filter-joined_below (has_prefix (y ∷ path)) (λ x. behind (x ∷ []) (kids x)) 16
     ∙ joined_below-only _ y 16 small (λ x apart.
     let test : (x == y) ≡ false = grind (arith, nat_tests) in
     filter-behind (x ∷ []) (y ∷ path) (kids x) ∙ ap (λ b. kept_behind (x ∷ []) (if b then Some path else None) (kids x)) test)
@@ -122,7 +122,7 @@ node_of_tree tree = node (sha256 (text tree))
 -- the steps of a lookup, told by the rows
 abbrev Told : List Row → List ℕ → List ℕ → Type 0
 Told rows before path =
-    lookup_steps (shown (tree_of rows)) before path ≡ map (at_place node_of_tree rows) (filter (has_front path) (places (tree_of rows))) ++ value_steps (before ++ path) (option_map value_ref (row_at rows path))
+    lookup_steps (shown (tree_of rows)) before path ≡ map (at_place node_of_tree rows) (filter (has_prefix path) (places (tree_of rows))) ++ value_steps (before ++ path) (option_map value_ref (row_at rows path))
 
 abbrev AllTold : List Row → Type 0
 AllTold rows = (before path : List ℕ) → AreNibbles path → Told rows before path
@@ -132,13 +132,13 @@ at_top rows tree e = ap (λ rs. node_of_tree (tree_of rs)) (below-nil rows) ∙ 
 
 told_none : AllTold []
 unfolding shown lookup_steps places below ends_here
-told_none before path small = subst (λ t. lookup_steps (shown t) before path ≡ map (at_place node_of_tree []) (filter (has_front path) (places t)) ++ []) (sym tree_of-nil) refl
+told_none before path small = subst (λ t. lookup_steps (shown t) before path ≡ map (at_place node_of_tree []) (filter (has_prefix path) (places t)) ++ []) (sym tree_of-nil) refl
 
 told_one : (row : Row) → AllTold (row ∷ [])
 unfolding shown lookup_steps places rest_behind below ends_here
 told_one row before path small =
     let e = tree_of-one row in
-    subst (λ t. lookup_steps (shown t) before path ≡ map (at_place node_of_tree (row ∷ [])) (filter (has_front path) (places t)) ++ value_steps (before ++ path) (option_map value_ref (row_at (row ∷ []) path))) (sym e)
+    subst (λ t. lookup_steps (shown t) before path ≡ map (at_place node_of_tree (row ∷ [])) (filter (has_prefix path) (places t)) ++ value_steps (before ++ path) (option_map value_ref (row_at (row ∷ []) path))) (sym e)
     (ap₂ (λ (a : Step) (others : List Step). a ∷ others) (sym (at_top (row ∷ []) _ e)) (test (pointwise nat_eq row.0 path) refl))
   where
     test : (b : Bool) → pointwise nat_eq row.0 path ≡ b → (if b then value (before ++ row.0) (value_ref row.1) ∷ [] else []) ≡ value_steps (before ++ path) (option_map value_ref (row_at (row ∷ []) path))
@@ -149,7 +149,7 @@ told_one row before path small =
 
 told_branch : (rows : List Row) → tree_of rows ≡ branch (ends_here rows) (λ x. tree_of (below (x ∷ []) rows)) → ((x : ℕ) → AllTold (below (x ∷ []) rows)) → AllTold rows
 unfolding shown lookup_steps places rest_behind
-told_branch rows e further before path small = subst (λ t. lookup_steps (shown t) before path ≡ map (at_place node_of_tree rows) (filter (has_front path) (places t)) ++ value_steps (before ++ path) (option_map value_ref (row_at rows path))) (sym e) (go path small)
+told_branch rows e further before path small = subst (λ t. lookup_steps (shown t) before path ≡ map (at_place node_of_tree rows) (filter (has_prefix path) (places t)) ++ value_steps (before ++ path) (option_map value_ref (row_at rows path))) (sym e) (go path small)
   where
     kids : ℕ → Tree
     kids x = tree_of (below (x ∷ []) rows)
@@ -157,7 +157,7 @@ told_branch rows e further before path small = subst (λ t. lookup_steps (shown 
     below_top : ℕ → List (List ℕ)
     below_top n = joined_below (λ x. behind (x ∷ []) (places (kids x))) n
 
-    go : (p : List ℕ) → AreNibbles p → lookup_steps (shown (branch (ends_here rows) kids)) before p ≡ at_place node_of_tree rows [] ∷ map (at_place node_of_tree rows) (filter (has_front p) (below_top 16)) ++ value_steps (before ++ p) (option_map value_ref (row_at rows p))
+    go : (p : List ℕ) → AreNibbles p → lookup_steps (shown (branch (ends_here rows) kids)) before p ≡ at_place node_of_tree rows [] ∷ map (at_place node_of_tree rows) (filter (has_prefix p) (below_top 16)) ++ value_steps (before ++ p) (option_map value_ref (row_at rows p))
     go [] h =
         ap₂ (λ (a : Step) (others : List Step). a ∷ others) (sym (at_top rows _ e))
         (ap₂ (λ (q : List ℕ) (rs : List Row). value_steps q (option_map value_ref (ends_here rs))) (sym (append-nil before)) (sym (below-nil rows))
@@ -166,31 +166,31 @@ told_branch rows e further before path small = subst (λ t. lookup_steps (shown 
         ap₂ (λ (a : Step) (others : List Step). a ∷ others) (sym (at_top rows _ e))
         (further y (before ++ y ∷ []) p h.1
         ∙ ap₂ (λ (ss : List Step) (vs : List Step). ss ++ vs)
-        (sym (map-behind node_of_tree rows (y ∷ []) (filter (has_front p) (places (kids y)))) ∙ ap (map (at_place node_of_tree rows)) (sym (kept_at y p (λ x. places (kids x)) h.0)))
+        (sym (map-behind node_of_tree rows (y ∷ []) (filter (has_prefix p) (places (kids y)))) ∙ ap (map (at_place node_of_tree rows)) (sym (kept_at y p (λ x. places (kids x)) h.0)))
         (ap₂ (λ (q : List ℕ) (rs : List Row). value_steps q (option_map value_ref (ends_here rs))) (append_assoc before (y ∷ []) p) (sym (below-append (y ∷ []) p rows))))
 
-AreNibbles-rest : (front rest : List ℕ) → AreNibbles (front ++ rest) → AreNibbles rest
+AreNibbles-rest : (prefix rest : List ℕ) → AreNibbles (prefix ++ rest) → AreNibbles rest
 AreNibbles-rest [] rest h = h
-AreNibbles-rest (x ∷ front) rest h = AreNibbles-rest front rest h.1
+AreNibbles-rest (x ∷ prefix) rest h = AreNibbles-rest prefix rest h.1
 
-told_extension : (rows : List Row) (front : List ℕ) → AllHaveFront front rows → tree_of rows ≡ extension front (tree_of (below front rows)) → AllTold (below front rows) → AllTold rows
-unfolding shown lookup_steps places rest_behind behind_front
-told_extension rows front all e further before path small =
-    subst (λ t. lookup_steps (shown t) before path ≡ map (at_place node_of_tree rows) (filter (has_front path) (places t)) ++ value_steps (before ++ path) (option_map value_ref (row_at rows path))) (sym e)
+told_extension : (rows : List Row) (prefix : List ℕ) → AllHavePrefix prefix rows → tree_of rows ≡ extension prefix (tree_of (below prefix rows)) → AllTold (below prefix rows) → AllTold rows
+unfolding shown lookup_steps places rest_behind behind_prefix
+told_extension rows prefix all e further before path small =
+    subst (λ t. lookup_steps (shown t) before path ≡ map (at_place node_of_tree rows) (filter (has_prefix path) (places t)) ++ value_steps (before ++ path) (option_map value_ref (row_at rows path))) (sym e)
     (ap₂ (λ (a : Step) (others : List Step). a ∷ others) (sym (at_top rows _ e))
-    (go (rest_behind front path) refl ∙ ap (λ (ps : List (List ℕ)). map (at_place node_of_tree rows) ps ++ value_steps (before ++ path) (option_map value_ref (row_at rows path))) (sym (filter-behind front path (places child)))))
+    (go (rest_behind prefix path) refl ∙ ap (λ (ps : List (List ℕ)). map (at_place node_of_tree rows) ps ++ value_steps (before ++ path) (option_map value_ref (row_at rows path))) (sym (filter-behind prefix path (places child)))))
   where
     child : Tree
-    child = tree_of (below front rows)
+    child = tree_of (below prefix rows)
 
-    go : (r : Option (List ℕ)) → rest_behind front path ≡ r → behind_front (lookup_steps (shown child) (before ++ front)) r ≡ map (at_place node_of_tree rows) (kept_behind front r (places child)) ++ value_steps (before ++ path) (option_map value_ref (row_at rows path))
-    go None r = ap (λ o. value_steps (before ++ path) (option_map value_ref o)) (sym (row_at-outside front path rows all r))
+    go : (r : Option (List ℕ)) → rest_behind prefix path ≡ r → behind_prefix (lookup_steps (shown child) (before ++ prefix)) r ≡ map (at_place node_of_tree rows) (kept_behind prefix r (places child)) ++ value_steps (before ++ path) (option_map value_ref (row_at rows path))
+    go None r = ap (λ o. value_steps (before ++ path) (option_map value_ref o)) (sym (row_at-outside prefix path rows all r))
     go (Some rest) r =
-        let whole = front_and_rest front path rest r in
-        further (before ++ front) rest (AreNibbles-rest front rest (subst AreNibbles whole small))
+        let whole = prefix_and_rest prefix path rest r in
+        further (before ++ prefix) rest (AreNibbles-rest prefix rest (subst AreNibbles whole small))
         ∙ ap₂ (λ (ss vs : List Step). ss ++ vs)
-        (sym (map-behind node_of_tree rows front (filter (has_front rest) (places child))))
-        (ap₂ (λ (q : List ℕ) (rs : List Row). value_steps q (option_map value_ref (ends_here rs))) (append_assoc before front rest) (sym (below-append front rest rows))
+        (sym (map-behind node_of_tree rows prefix (filter (has_prefix rest) (places child))))
+        (ap₂ (λ (q : List ℕ) (rs : List Row). value_steps q (option_map value_ref (ends_here rs))) (append_assoc before prefix rest) (sym (below-append prefix rest rows))
         ∙ ap (λ (q : List ℕ). value_steps (before ++ q) (option_map value_ref (row_at rows q))) (sym whole))
 
 -- The lookup of a path goes through the places on it, and ends at the row with this path, if there is one.
@@ -199,10 +199,10 @@ lookup_steps-shown = by_cases AllTold (record {
   none = told_none;
   one = told_one;
   forks = λ row next rows e further. told_branch (row ∷ next ∷ rows) (tree_of-forks row next rows e) further;
-  shares = λ row next rows x front e further.
+  shares = λ row next rows x prefix e further.
       let rs : List Row = row ∷ next ∷ rows in
-      let all = subst (λ (f : List ℕ). AllHaveFront f rs) e (common_front-all row (next ∷ rows)) in
-      told_extension rs (x ∷ front) all (tree_of-shares row next rows x front e) further;
+      let all = subst (λ (f : List ℕ). AllHavePrefix f rs) e (common_prefix-all row (next ∷ rows)) in
+      told_extension rs (x ∷ prefix) all (tree_of-shares row next rows x prefix e) further;
 })
 
 -- ---- the visits
@@ -242,7 +242,7 @@ row_at-key state key = row_at-pairs (entries state) key ∙ sym (get-entries sta
 -- what the lookup of a key visits in a table that holds a state
 abbrev pub lookup_of : State → List ℕ → Visits
 lookup_of state key = record {
-  digests = map (λ place. sha256 (text_at state place)) (filter (has_front (nibbles key)) (places_of state)) ++ at_most_one (option_map sha256 (get state key));
+  digests = map (λ place. sha256 (text_at state place)) (filter (has_prefix (nibbles key)) (places_of state)) ++ at_most_one (option_map sha256 (get state key));
   values = at_most_one (option_map (λ value. (nibbles key, value)) (get state key));
   refusal = None;
 }
@@ -256,9 +256,9 @@ lookup_visits-state table state key held is bytes =
     let whole : subtree_at state [] ≡ tree_of rows = subtree_at-root state in
     ap (λ s. visits_of table 1 (lookup_steps s [] path)) (state_seen table state held is ∙ ap shown whole)
     ∙ ap (visits_of table 1) (lookup_steps-shown rows [] path (AreNibbles-nibbles key bytes))
-    ∙ visits_of-nodes table (λ place. sha256 (text_at state place)) (filter (has_front path) (places (tree_of rows))) path found (row_at-all (HeldValue table) rows path (held_values table state held))
+    ∙ visits_of-nodes table (λ place. sha256 (text_at state place)) (filter (has_prefix path) (places (tree_of rows))) path found (row_at-all (HeldValue table) rows path (held_values table state held))
     ∙ ap₂ (λ tree (o : Option (List ℕ)). record {
-      digests = map (λ place. sha256 (text_at state place)) (filter (has_front path) (places tree)) ++ at_most_one (option_map sha256 o);
+      digests = map (λ place. sha256 (text_at state place)) (filter (has_prefix path) (places tree)) ++ at_most_one (option_map sha256 o);
       values = at_most_one (option_map (λ value. (path, value)) o);
       refusal = None;
     }) (sym whole) (row_at-key state key)

@@ -34,9 +34,9 @@ use Rattle.visit_model.proofs.Rows.{Named, beneath, beneath-nil, name_here, name
 abbrev paths_of : List Named → List (List ℕ)
 paths_of names = map (λ name. name.0) names
 
-paths_of-beneath : (front : List ℕ) (names : List Named) → paths_of (beneath front names) ≡ behind front (paths_of names)
-paths_of-beneath front [] = refl
-paths_of-beneath front (name ∷ names) = ap (λ (paths : List (List ℕ)). (front ++ name.0) ∷ paths) (paths_of-beneath front names)
+paths_of-beneath : (prefix : List ℕ) (names : List Named) → paths_of (beneath prefix names) ≡ behind prefix (paths_of names)
+paths_of-beneath prefix [] = refl
+paths_of-beneath prefix (name ∷ names) = ap (λ (paths : List (List ℕ)). (prefix ++ name.0) ∷ paths) (paths_of-beneath prefix names)
 
 -- the paths behind each nibble below a bound
 abbrev spread : (ℕ → List (List ℕ)) → ℕ → List (List ℕ)
@@ -96,42 +96,42 @@ rising-named_in (extension digest usage path child) = subst Rising (sym (paths_o
 -- ---- what the steps give
 
 -- what is read of some names: the first of them, of each of which something holds
-record ReadsFront (Q : Row → Type 0) (most : ℕ) (names : List Named) (visits : Visits) : Type 0 where
+record ReadsPrefix (Q : Row → Type 0) (most : ℕ) (names : List Named) (visits : Visits) : Type 0 where
   few : length visits.values ≤ most
   others : List (List ℕ)
-  front : paths_of names ≡ map (λ row. row.0) visits.values ++ others
+  prefix : paths_of names ≡ map (λ row. row.0) visits.values ++ others
   each : AllByRecursion Q visits.values
 
-module _ (table : Table) (P : Named → Type 0) (Q : Row → Type 0) (read : (path : List ℕ) (ref : ValueRef) (text : List ℕ) → P (path, ref) → get table ref.digest ≡ Some text → length text ≡ ref.size → Q (path, text)) where
-  reads_none : (most : ℕ) (names : List Named) (digests : List (List ℕ)) (refusal : Option Refusal) → ReadsFront Q most names (record { digests = digests; values = []; refusal = refusal })
-  reads_none most names digests refusal = record { few = omega arith; others = paths_of names; front = refl; each = tt }
+module _ (table : Table) (P : Named → Type 0) (Q : Row → Type 0) (read : (path : List ℕ) (ref : ValueRef) (text : List ℕ) → P (path, ref) → get table ref.digest ≡ Some text → length text ≡ ref.length → Q (path, text)) where
+  reads_none : (most : ℕ) (names : List Named) (digests : List (List ℕ)) (refusal : Option Refusal) → ReadsPrefix Q most names (record { digests = digests; values = []; refusal = refusal })
+  reads_none most names digests refusal = record { few = omega arith; others = paths_of names; prefix = refl; each = tt }
 
-  reads_value : (most : ℕ) (path : List ℕ) (ref : ValueRef) (names : List Named) (after : Visits) → P (path, ref) → ReadsFront Q most names after → ReadsFront Q (suc most) ((path, ref) ∷ names) (value_visit path ref (get table ref.digest) after)
+  reads_value : (most : ℕ) (path : List ℕ) (ref : ValueRef) (names : List Named) (after : Visits) → P (path, ref) → ReadsPrefix Q most names after → ReadsPrefix Q (suc most) ((path, ref) ∷ names) (value_visit path ref (get table ref.digest) after)
   unfolding value_visit
   reads_value most path ref names after fits further =
-      elim (get table ref.digest) as (λ o. get table ref.digest ≡ o → ReadsFront Q (suc most) ((path, ref) ∷ names) (value_visit path ref o after)) [
+      elim (get table ref.digest) as (λ o. get table ref.digest ≡ o → ReadsPrefix Q (suc most) ((path, ref) ∷ names) (value_visit path ref o after)) [
         | None ↦ λ e. reads_none (suc most) ((path, ref) ∷ names) _ _
-        | Some text ↦ λ e. elim (length text == ref.size) as (λ b. (length text == ref.size) ≡ b → ReadsFront Q (suc most) ((path, ref) ∷ names) (if b then value_first ref.digest (path, text) after else refused ref.digest (refusal.bad ref.digest))) [
+        | Some text ↦ λ e. elim (length text == ref.length) as (λ b. (length text == ref.length) ≡ b → ReadsPrefix Q (suc most) ((path, ref) ∷ names) (if b then value_first ref.digest (path, text) after else refused ref.digest (refusal.bad ref.digest))) [
           | true ↦ λ t. record {
             few = let n : length after.values ≤ most = further.few in omega arith;
             others = further.others;
-            front = ap (λ (paths : List (List ℕ)). path ∷ paths) further.front;
-            each = (read path ref text fits e (equal_of_test (length text) ref.size t), further.each);
+            prefix = ap (λ (paths : List (List ℕ)). path ∷ paths) further.prefix;
+            each = (read path ref text fits e (equal_of_test (length text) ref.length t), further.each);
           }
           | false ↦ λ t. reads_none (suc most) ((path, ref) ∷ names) _ _
         ] refl
       ] refl
 
-  reads_front : (most : ℕ) (steps : List Step) → AllByRecursion P (named steps) → ReadsFront Q most (named steps) (visits_of table most steps)
+  reads_prefix : (most : ℕ) (steps : List Step) → AllByRecursion P (named steps) → ReadsPrefix Q most (named steps) (visits_of table most steps)
   unfolding visits_of named
-  reads_front zero steps all = reads_none zero (named steps) _ _
-  reads_front (suc most) [] all = reads_none (suc most) [] _ _
-  reads_front (suc most) (step.node digest ∷ steps) all =
-      let further = reads_front (suc most) steps all in
-      record { few = further.few; others = further.others; front = further.front; each = further.each }
-  reads_front (suc most) (step.no_text digest ∷ steps) all = reads_none (suc most) (named steps) _ _
-  reads_front (suc most) (step.no_node digest ∷ steps) all = reads_none (suc most) (named steps) _ _
-  reads_front (suc most) (step.value path ref ∷ steps) all = reads_value most path ref (named steps) (visits_of table most steps) all.0 (reads_front most steps all.1)
+  reads_prefix zero steps all = reads_none zero (named steps) _ _
+  reads_prefix (suc most) [] all = reads_none (suc most) [] _ _
+  reads_prefix (suc most) (step.node digest ∷ steps) all =
+      let further = reads_prefix (suc most) steps all in
+      record { few = further.few; others = further.others; prefix = further.prefix; each = further.each }
+  reads_prefix (suc most) (step.no_text digest ∷ steps) all = reads_none (suc most) (named steps) _ _
+  reads_prefix (suc most) (step.no_node digest ∷ steps) all = reads_none (suc most) (named steps) _ _
+  reads_prefix (suc most) (step.value path ref ∷ steps) all = reads_value most path ref (named steps) (visits_of table most steps) all.0 (reads_prefix most steps all.1)
 
 -- ---- a listing
 
@@ -154,14 +154,14 @@ all-reaching P bound (name ∷ names) h =
       | false ↦ λ e. further
     ] refl
 
-rising-front : (paths others : List (List ℕ)) → Rising (paths ++ others) → Rising paths
+rising-prefix : (paths others : List (List ℕ)) → Rising (paths ++ others) → Rising paths
 unfolding IsStrictlySortedBy
-rising-front [] others h = tt
-rising-front (path ∷ paths) others h = (all_front paths h.0, rising-front paths others h.1)
+rising-prefix [] others h = tt
+rising-prefix (path ∷ paths) others h = (all_prefix paths h.0, rising-prefix paths others h.1)
   where
-    all_front : (ps : List (List ℕ)) → AllByRecursion (λ later. slice_cmp nat_cmp path later ≡ Less) (ps ++ others) → AllByRecursion (λ later. slice_cmp nat_cmp path later ≡ Less) ps
-    all_front [] h = tt
-    all_front (p ∷ ps) h = (h.0, all_front ps h.1)
+    all_prefix : (ps : List (List ℕ)) → AllByRecursion (λ later. slice_cmp nat_cmp path later ≡ Less) (ps ++ others) → AllByRecursion (λ later. slice_cmp nat_cmp path later ≡ Less) ps
+    all_prefix [] h = tt
+    all_prefix (p ∷ ps) h = (h.0, all_prefix ps h.1)
 
 listed_names : (table : Table) (root from : List ℕ) → named (listing_steps (seen table root) [] (nibbles from)) ≡ reaching (nibbles from) (named_in (seen table root))
 listed_names table root from = named-listing_steps (seen table root) [] (nibbles from) ∙ beneath-nil (reaching (nibbles from) (named_in (seen table root)))
@@ -169,11 +169,11 @@ listed_names table root from = named-listing_steps (seen table root) [] (nibbles
 abbrev Fitting : List ℕ → Named → Type 0
 Fitting bound name = NameFits 0 name × (reaches bound name.0 ≡ true)
 
-reads_listing : (table : Table) (root from : List ℕ) (most : ℕ) → ReadsFront (IsListed (nibbles from)) most (named (listing_steps (seen table root) [] (nibbles from))) (listing_visits table root from most)
+reads_listing : (table : Table) (root from : List ℕ) (most : ℕ) → ReadsPrefix (IsListed (nibbles from)) most (named (listing_steps (seen table root) [] (nibbles from))) (listing_visits table root from most)
 reads_listing table root from most =
     let bound : List ℕ = nibbles from in
-    reads_front table (Fitting bound) (IsListed bound) (λ path ref text fits e long.
-    let size : ref.size ≤ longest_value = fits.0.value_length in
+    reads_prefix table (Fitting bound) (IsListed bound) (λ path ref text fits e long.
+    let size : ref.length ≤ longest_value = fits.0.value_length in
     let same : 0 + length path ≡ length path = omega arith in
     record { reached = fits.1; whole = ap (λ n. n % 2) (sym same) ∙ fits.0.whole; path_length = subst (λ n. n ≤ longest_path) same fits.0.path_length; value_length = omega arith })
     most (listing_steps (seen table root) [] bound)
@@ -190,8 +190,8 @@ listing-rises table root from most =
     let bound : List ℕ = nibbles from in
     let names : List Named = named_in (seen table root) in
     let reads = reads_listing table root from most in
-    rising-front (map (λ row. row.0) (listing_visits table root from most).values) reads.others
-    (subst Rising (sym (paths_of-reaching bound names) ∙ ap paths_of (sym (listed_names table root from)) ∙ reads.front)
+    rising-prefix (map (λ row. row.0) (listing_visits table root from most).values) reads.others
+    (subst Rising (sym (paths_of-reaching bound names) ∙ ap paths_of (sym (listed_names table root from)) ∙ reads.prefix)
     (IsStrictlySortedBy-filter (slice_cmp nat_cmp) (reaches bound) (paths_of names) (rising-named_in (seen table root))))
 
 -- ---- over texts of bytes
@@ -204,8 +204,8 @@ pub listing-bytes : (table : Table) (root from : List ℕ) (most : ℕ) → AreB
 listing-bytes table root from most bytes =
     let bound : List ℕ = nibbles from in
     let names : List Named = named_in (seen table root) in
-    let reads : ReadsFront (λ row. AreNibbles row.0 × AreBytes row.1) most (named (listing_steps (seen table root) [] bound)) (listing_visits table root from most) =
-    reads_front table (λ name. AreNibbles name.0 × (reaches bound name.0 ≡ true)) (λ row. AreNibbles row.0 × AreBytes row.1) (λ path ref text small held long. (small.0, bytes ref.digest text held)) most (listing_steps (seen table root) [] bound)
+    let reads : ReadsPrefix (λ row. AreNibbles row.0 × AreBytes row.1) most (named (listing_steps (seen table root) [] bound)) (listing_visits table root from most) =
+    reads_prefix table (λ name. AreNibbles name.0 × (reaches bound name.0 ≡ true)) (λ row. AreNibbles row.0 × AreBytes row.1) (λ path ref text small held long. (small.0, bytes ref.digest text held)) most (listing_steps (seen table root) [] bound)
     (subst (AllByRecursion (λ name. AreNibbles name.0 × (reaches bound name.0 ≡ true))) (sym (listed_names table root from)) (all-reaching (λ name. AreNibbles name.0) bound names (nibbles-seen table root bytes))) in
     reads.each
 

@@ -17,9 +17,9 @@ use Rattle.visit_model.proofs.Joins.{filter-joined_below}
 abbrev pub Named : Type 0
 Named = List ℕ × ValueRef
 
--- with a front put before the path
+-- with a prefix put before the path
 abbrev pub beneath : List ℕ → List Named → List Named
-beneath front names = map (λ name. (front ++ name.0, name.1)) names
+beneath prefix names = map (λ name. (prefix ++ name.0, name.1)) names
 
 abbrev pub name_here : Option ValueRef → List Named
 name_here None = []
@@ -46,9 +46,9 @@ named_in (extension digest usage path child) = beneath path (named_in child)
 abbrev pub reaching : List ℕ → List Named → List Named
 reaching bound names = filter (λ name. reaches bound name.0) names
 
--- ---- a bound behind a front
+-- ---- a bound behind a prefix
 
--- what a front and the path behind it reach
+-- what a prefix and the path behind it reach
 abbrev pub reaches_behind : Option (List ℕ) → List ℕ → Bool
 reaches_behind None path = false
 reaches_behind (Some bound) path = reaches bound path
@@ -58,13 +58,13 @@ reaches-empty : (path : List ℕ) → reaches [] path ≡ true
 reaches-empty [] = refl
 reaches-empty (x ∷ path) = refl
 
-pub reaches-front : (front bound path : List ℕ) → reaches bound (front ++ path) ≡ reaches_behind (bound_behind front bound) path
+pub reaches-prefix : (prefix bound path : List ℕ) → reaches bound (prefix ++ path) ≡ reaches_behind (bound_behind prefix bound) path
 unfolding bound_behind
-reaches-front [] bound path = refl
-reaches-front (x ∷ front) [] path = sym (reaches-empty path)
-reaches-front (x ∷ front) (y ∷ bound) path = go (nat_lt x y) (x == y) refl refl (reaches-front front bound path)
+reaches-prefix [] bound path = refl
+reaches-prefix (x ∷ prefix) [] path = sym (reaches-empty path)
+reaches-prefix (x ∷ prefix) (y ∷ bound) path = go (nat_lt x y) (x == y) refl refl (reaches-prefix prefix bound path)
   where
-    go : (b c : Bool) → nat_lt x y ≡ b → (x == y) ≡ c → reaches bound (front ++ path) ≡ reaches_behind (bound_behind front bound) path → is_ge (ordering_then (cond b Less (cond c Equal Greater)) (slice_cmp nat_cmp (front ++ path) bound)) ≡ reaches_behind (if c then bound_behind front bound else if b then None else Some []) path
+    go : (b c : Bool) → nat_lt x y ≡ b → (x == y) ≡ c → reaches bound (prefix ++ path) ≡ reaches_behind (bound_behind prefix bound) path → is_ge (ordering_then (cond b Less (cond c Equal Greater)) (slice_cmp nat_cmp (prefix ++ path) bound)) ≡ reaches_behind (if c then bound_behind prefix bound else if b then None else Some []) path
     go true true e f further = absurd (both e f)
       where
         both : nat_lt x y ≡ true → (x == y) ≡ true → ⊥
@@ -73,32 +73,32 @@ reaches-front (x ∷ front) (y ∷ bound) path = go (nat_lt x y) (x == y) refl r
     go false true e f further = further
     go false false e f further = sym (reaches-empty path)
 
--- of names behind a front, those that reach what is left of the bound
+-- of names behind a prefix, those that reach what is left of the bound
 abbrev reaching_behind : List ℕ → Option (List ℕ) → List Named → List Named
-reaching_behind front None names = []
-reaching_behind front (Some bound) names = beneath front (reaching bound names)
+reaching_behind prefix None names = []
+reaching_behind prefix (Some bound) names = beneath prefix (reaching bound names)
 
-reaching-beneath : (front bound : List ℕ) (names : List Named) → reaching bound (beneath front names) ≡ reaching_behind front (bound_behind front bound) names
-reaching-beneath front bound [] = none (bound_behind front bound)
+reaching-beneath : (prefix bound : List ℕ) (names : List Named) → reaching bound (beneath prefix names) ≡ reaching_behind prefix (bound_behind prefix bound) names
+reaching-beneath prefix bound [] = none (bound_behind prefix bound)
   where
-    none : (b : Option (List ℕ)) → [] ≡ reaching_behind front b []
+    none : (b : Option (List ℕ)) → [] ≡ reaching_behind prefix b []
     none None = refl
     none (Some b) = refl
-reaching-beneath front bound (name ∷ names) =
-    ap₂ (λ b (others : List Named). cond b ((front ++ name.0, name.1) ∷ others) others) (reaches-front front bound name.0) (reaching-beneath front bound names)
-    ∙ step (bound_behind front bound)
+reaching-beneath prefix bound (name ∷ names) =
+    ap₂ (λ b (others : List Named). cond b ((prefix ++ name.0, name.1) ∷ others) others) (reaches-prefix prefix bound name.0) (reaching-beneath prefix bound names)
+    ∙ step (bound_behind prefix bound)
   where
-    step : (b : Option (List ℕ)) → cond (reaches_behind b name.0) ((front ++ name.0, name.1) ∷ reaching_behind front b names) (reaching_behind front b names) ≡ reaching_behind front b (name ∷ names)
+    step : (b : Option (List ℕ)) → cond (reaches_behind b name.0) ((prefix ++ name.0, name.1) ∷ reaching_behind prefix b names) (reaching_behind prefix b names) ≡ reaching_behind prefix b (name ∷ names)
     step None = refl
     step (Some left) =
-        elim (reaches left name.0) as (λ c. cond c ((front ++ name.0, name.1) ∷ beneath front (reaching left names)) (beneath front (reaching left names)) ≡ beneath front (cond c (name ∷ reaching left names) (reaching left names))) [
+        elim (reaches left name.0) as (λ c. cond c ((prefix ++ name.0, name.1) ∷ beneath prefix (reaching left names)) (beneath prefix (reaching left names)) ≡ beneath prefix (cond c (name ∷ reaching left names) (reaching left names))) [
           | true ↦ refl
           | false ↦ refl
         ]
 
-beneath-beneath : (front more : List ℕ) (names : List Named) → beneath (front ++ more) names ≡ beneath front (beneath more names)
-beneath-beneath front more [] = refl
-beneath-beneath front more (name ∷ names) = ap₂ (λ (path : List ℕ) (others : List Named). (path, name.1) ∷ others) (append_assoc front more name.0) (beneath-beneath front more names)
+beneath-beneath : (prefix more : List ℕ) (names : List Named) → beneath (prefix ++ more) names ≡ beneath prefix (beneath more names)
+beneath-beneath prefix more [] = refl
+beneath-beneath prefix more (name ∷ names) = ap₂ (λ (path : List ℕ) (others : List Named). (path, name.1) ∷ others) (append_assoc prefix more name.0) (beneath-beneath prefix more names)
 
 pub beneath-nil : (names : List Named) → beneath [] names ≡ names
 beneath-nil [] = refl
@@ -138,15 +138,15 @@ named-reached before path ref bound =
 abbrev Names : Seen → Type 0
 Names seen = (before bound : List ℕ) → named (listing_steps seen before bound) ≡ beneath before (reaching bound (named_in seen))
 
-named-behind : (seen : Seen) → Names seen → (before front bound : List ℕ) → named (behind (listing_steps seen (before ++ front)) (bound_behind front bound)) ≡ beneath before (reaching bound (beneath front (named_in seen)))
+named-behind : (seen : Seen) → Names seen → (before prefix bound : List ℕ) → named (behind (listing_steps seen (before ++ prefix)) (bound_behind prefix bound)) ≡ beneath before (reaching bound (beneath prefix (named_in seen)))
 unfolding named behind
-named-behind seen names before front bound =
-    go (bound_behind front bound)
-    ∙ sym (ap (beneath before) (reaching-beneath front bound (named_in seen)))
+named-behind seen names before prefix bound =
+    go (bound_behind prefix bound)
+    ∙ sym (ap (beneath before) (reaching-beneath prefix bound (named_in seen)))
   where
-    go : (b : Option (List ℕ)) → named (behind (listing_steps seen (before ++ front)) b) ≡ beneath before (reaching_behind front b (named_in seen))
+    go : (b : Option (List ℕ)) → named (behind (listing_steps seen (before ++ prefix)) b) ≡ beneath before (reaching_behind prefix b (named_in seen))
     go None = refl
-    go (Some left) = names (before ++ front) left ∙ beneath-beneath before front (reaching left (named_in seen))
+    go (Some left) = names (before ++ prefix) left ∙ beneath-beneath before prefix (reaching left (named_in seen))
 
 pub named-listing_steps : (seen : Seen) (before bound : List ℕ) → named (listing_steps seen before bound) ≡ beneath before (reaching bound (named_in seen))
 unfolding named named_in listing_steps bound_behind

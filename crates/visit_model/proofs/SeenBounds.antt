@@ -10,7 +10,7 @@ use Rattle.byte_model.specs.Node.{Node, ValueRef}
 use Rattle.record_model.specs.Records.{RecordFault, record_in, has_shape}
 use Rattle.record_model.specs.Fits.{fits_at, has_place, is_whole}
 use Rattle.trie_model.specs.Root.{Table}
-use Rattle.visit_model.specs.Seen.{Looks, bad, branch, extension, seen_kid, seen_node, seen_record, seen_text, seen_within, seen_at}
+use Rattle.visit_model.specs.Seen.{Looks, bad, branch, extension, seen_child, seen_node, seen_record, seen_text, seen_within, seen_at}
 
 -- ---- the two tests of a node that fits
 
@@ -45,17 +45,17 @@ abbrev pub AgreeBelow : ℕ → Looks → Looks → Type 0
 AgreeBelow depth f g = (deeper : ℕ) (after_extension : Bool) (digest : List ℕ) → depth < deeper → deeper ≤ longest_path → f deeper after_extension digest ≡ g deeper after_extension digest
 
 module _ (f g : Looks) (depth : ℕ) (agree : AgreeBelow depth f g) where
-  seen_kid-agree : depth + 1 ≤ longest_path → (kid : Option (List ℕ)) → seen_kid (f (depth + 1) false) kid ≡ seen_kid (g (depth + 1) false) kid
-  unfolding seen_kid
-  seen_kid-agree room None = refl
-  seen_kid-agree room (Some digest) = agree (depth + 1) false digest (omega arith) room
+  seen_child-agree : depth + 1 ≤ longest_path → (child : Option (List ℕ)) → seen_child (f (depth + 1) false) child ≡ seen_child (g (depth + 1) false) child
+  unfolding seen_child
+  seen_child-agree room None = refl
+  seen_child-agree room (Some digest) = agree (depth + 1) false digest (omega arith) room
 
   seen_node-agree : (after_extension : Bool) (digest : List ℕ) (n : Node) (usage : ℕ) → fits_at depth after_extension n ≡ true → seen_node f depth digest n usage ≡ seen_node g depth digest n usage
   unfolding seen_node
   seen_node-agree after_extension digest (node.leaf path value) usage fits = refl
   seen_node-agree after_extension digest (node.branch value kids) usage fits =
       let room = branch_room depth after_extension value kids (place_fits depth after_extension (node.branch value kids) fits) in
-      ap (branch digest usage value) (fun_ext (λ x. seen_kid-agree room (kids x)))
+      ap (branch digest usage value) (fun_ext (λ x. seen_child-agree room (kids x)))
   seen_node-agree after_extension digest (node.extension path child) usage fits =
       let some = extension_some path child (shape_fits depth after_extension (node.extension path child) fits) in
       let room = extension_room depth after_extension path child (place_fits depth after_extension (node.extension path child) fits) in

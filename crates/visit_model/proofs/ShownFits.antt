@@ -8,22 +8,22 @@ use Rattle.std.proofs.lemmas.Bool.Decides.{nat_tests}
 use Rattle.std.proofs.lemmas.List.{append_cancel_left}
 use Rattle.byte_model.specs.PackedPath.{longest_path, packed}
 use Rattle.byte_model.specs.Node as node
-use Rattle.byte_model.specs.Node.{Node, ValueRef, IsShaped, spelled, longest_value, kid_count}
+use Rattle.byte_model.specs.Node.{Node, ValueRef, IsShaped, spelled, longest_value, child_count}
 use Rattle.byte_model.specs.Laws.{FitsRecord}
 use Rattle.byte_model.proofs.Digits.{length-nibbles}
 use Rattle.byte_model.proofs.Paths.{length-packed}
 use Rattle.record_model.specs.Records.{IsRecord, HasShortPath, has_shape}
 use Rattle.record_model.specs.Fits.{fits_at, has_place, is_whole}
 use Rattle.trie_model.specs.State.{State, Row, IsPair, IsState, rows_of}
-use Rattle.trie_model.specs.Tree.{Tree, nothing, leaf, branch, extension, rest_behind, below, ends_here, common_front, tree_of}
+use Rattle.trie_model.specs.Tree.{Tree, nothing, leaf, branch, extension, rest_behind, below, ends_here, common_prefix, tree_of}
 use Rattle.trie_model.specs.Texts.{text, usage, node_of, value_ref}
 use Rattle.trie_model.specs.Root.{subtree_at}
 use Rattle.trie_model.proofs.Worked.{Pair, rows_of_pairs}
-use Rattle.trie_model.proofs.Rests.{under, under-below, AllHaveFront, common_front-all, below-nil, below-append}
+use Rattle.trie_model.proofs.Rests.{under, under-below, AllHavePrefix, common_prefix-all, below-nil, below-append}
 use Rattle.trie_model.proofs.Trees.{length-rest_behind, tree_of-nil, tree_of-one, tree_of-forks, tree_of-shares, by_cases}
 use Rattle.trie_model.proofs.Order.{Before, RisingRows, rising-below, rising-rows_of, all-below}
 use Rattle.trie_model.proofs.Pairs.{from_before, from_empty, Small, small-below, small-rows_of}
-use Rattle.trie_model.proofs.Growth.{common_front-under}
+use Rattle.trie_model.proofs.Growth.{common_prefix-under}
 use Rattle.trie_model.proofs.Costs.{text-node_of, subtree_at-root}
 use Rattle.trie_model.proofs.Shapes.{ShortValues, short-below, short-rows_of, sound_nodes}
 use Rattle.trie_model.proofs.Bounds.{usage-lt}
@@ -55,8 +55,8 @@ shape_test (node.branch None kids) shaped = grind (arith, nat_tests)
 shape_test (node.branch (Some value) kids) shaped =
     let fits = shaped.0 in
     let some = shaped.1 in
-    let short : nat_le value.size longest_value ≡ true = grind (arith, nat_tests) in
-    let enough : nat_le 1 (kid_count kids) ≡ true = grind (arith, nat_tests) in
+    let short : nat_le value.length longest_value ≡ true = grind (arith, nat_tests) in
+    let enough : nat_le 1 (child_count kids) ≡ true = grind (arith, nat_tests) in
     rw (short, enough) refl
 shape_test (node.extension [] child) shaped = absurd (shaped refl)
 shape_test (node.extension (x ∷ path) child) shaped = grind (arith, nat_tests)
@@ -108,7 +108,7 @@ abbrev IsForked : Bool → List Row → Type 0
 IsForked false rows = ⊤
 IsForked true [] = ⊥
 IsForked true (row ∷ []) = ⊥
-IsForked true (row ∷ next ∷ rows) = common_front row (next ∷ rows) ≡ []
+IsForked true (row ∷ next ∷ rows) = common_prefix row (next ∷ rows) ≡ []
 
 record Standing (depth : ℕ) (after_extension : Bool) (rows : List Row) : Type 0 where
   rising : RisingRows rows
@@ -118,19 +118,19 @@ record Standing (depth : ℕ) (after_extension : Bool) (rows : List Row) : Type 
   usages : (place : List ℕ) → usage (tree_of (below place rows)) < 2 ^ 64
   forked : IsForked after_extension rows
 
-EndsWell-rest : (depth : ℕ) (front : List ℕ) (row : Row) (rest : List ℕ) → rest_behind front row.0 ≡ Some rest → EndsWell depth row → EndsWell (depth + length front) (rest, row.1)
-EndsWell-rest depth front row rest e h =
-    let n = length-rest_behind front row.0 rest e in
+EndsWell-rest : (depth : ℕ) (prefix : List ℕ) (row : Row) (rest : List ℕ) → rest_behind prefix row.0 ≡ Some rest → EndsWell depth row → EndsWell (depth + length prefix) (rest, row.1)
+EndsWell-rest depth prefix row rest e h =
+    let n = length-rest_behind prefix row.0 rest e in
     record { short = omega arith; whole = omega arith }
 
 -- further down
-standing-below : (front : List ℕ) (depth : ℕ) (here there : Bool) (rows : List Row) → Standing depth here rows → IsForked there (below front rows) → Standing (depth + length front) there (below front rows)
-standing-below front depth here there rows h forked = record {
-  rising = rising-below front rows h.rising;
-  small = small-below front rows h.small;
-  short = short-below front rows h.short;
-  ends = all-below (EndsWell depth) (EndsWell (depth + length front)) front (λ row rest e k. EndsWell-rest depth front row rest e k) rows h.ends;
-  usages = λ place. subst (λ rs. usage (tree_of rs) < 2 ^ 64) (below-append front place rows) (h.usages (front ++ place));
+standing-below : (prefix : List ℕ) (depth : ℕ) (here there : Bool) (rows : List Row) → Standing depth here rows → IsForked there (below prefix rows) → Standing (depth + length prefix) there (below prefix rows)
+standing-below prefix depth here there rows h forked = record {
+  rising = rising-below prefix rows h.rising;
+  small = small-below prefix rows h.small;
+  short = short-below prefix rows h.short;
+  ends = all-below (EndsWell depth) (EndsWell (depth + length prefix)) prefix (λ row rest e k. EndsWell-rest depth prefix row rest e k) rows h.ends;
+  usages = λ place. subst (λ rs. usage (tree_of rs) < 2 ^ 64) (below-append prefix place rows) (h.usages (prefix ++ place));
   forked = forked;
 }
 
@@ -168,25 +168,25 @@ none_past x past ((y ∷ path, value) ∷ rows) small =
     let test : (x == y) ≡ false = grind (arith, nat_tests) in
     rw test (none_past x past rows small.1)
 
--- ---- rows below the front that they share
+-- ---- rows below the prefix that they share
 
--- the front that some rows share
-abbrev shared_front : List Row → List ℕ
-shared_front [] = []
-shared_front (row ∷ rows) = common_front row rows
+-- the prefix that some rows share
+abbrev shared_prefix : List Row → List ℕ
+shared_prefix [] = []
+shared_prefix (row ∷ rows) = common_prefix row rows
 
-no_more : (front : List ℕ) (p : List ℕ) → front ++ p ≡ front → p ≡ []
-no_more front p e = append_cancel_left front p [] (e ∙ sym (append-nil front))
+no_more : (prefix : List ℕ) (p : List ℕ) → prefix ++ p ≡ prefix → p ≡ []
+no_more prefix p e = append_cancel_left prefix p [] (e ∙ sym (append-nil prefix))
 
-forked_under : (front : List ℕ) (rest : List Row) (row next : Row) (rows : List Row) → under front rest ≡ row ∷ next ∷ rows → common_front row (next ∷ rows) ≡ front → IsForked true rest
-forked_under front [] row next rows same e = cc
-forked_under front (one ∷ []) row next rows same e = cc
-forked_under front (one ∷ two ∷ rest) row next rows same e = no_more front (common_front one (two ∷ rest)) (sym (common_front-under front one (two ∷ rest)) ∙ ap shared_front same ∙ e)
+forked_under : (prefix : List ℕ) (rest : List Row) (row next : Row) (rows : List Row) → under prefix rest ≡ row ∷ next ∷ rows → common_prefix row (next ∷ rows) ≡ prefix → IsForked true rest
+forked_under prefix [] row next rows same e = cc
+forked_under prefix (one ∷ []) row next rows same e = cc
+forked_under prefix (one ∷ two ∷ rest) row next rows same e = no_more prefix (common_prefix one (two ∷ rest)) (sym (common_prefix-under prefix one (two ∷ rest)) ∙ ap shared_prefix same ∙ e)
 
-forked_below : (front : List ℕ) (row next : Row) (rows : List Row) → common_front row (next ∷ rows) ≡ front → IsForked true (below front (row ∷ next ∷ rows))
-forked_below front row next rows e =
-    let all = subst (λ (f : List ℕ). AllHaveFront f (row ∷ next ∷ rows)) e (common_front-all row (next ∷ rows)) in
-    forked_under front (below front (row ∷ next ∷ rows)) row next rows (under-below front (row ∷ next ∷ rows) all) e
+forked_below : (prefix : List ℕ) (row next : Row) (rows : List Row) → common_prefix row (next ∷ rows) ≡ prefix → IsForked true (below prefix (row ∷ next ∷ rows))
+forked_below prefix row next rows e =
+    let all = subst (λ (f : List ℕ). AllHavePrefix f (row ∷ next ∷ rows)) e (common_prefix-all row (next ∷ rows)) in
+    forked_under prefix (below prefix (row ∷ next ∷ rows)) row next rows (under-below prefix (row ∷ next ∷ rows) all) e
 
 -- ---- places
 
@@ -213,9 +213,9 @@ extension_place : (depth : ℕ) (after_extension : Bool) (path child : List ℕ)
 unfolding has_place
 extension_place depth after_extension path child room not_after = rw (true_lt (depth + length path) longest_path room, not_after) refl
 
-not_after_extension : (after_extension : Bool) (row next : Row) (rows : List Row) (x : ℕ) (front : List ℕ) → common_front row (next ∷ rows) ≡ x ∷ front → IsForked after_extension (row ∷ next ∷ rows) → after_extension ≡ false
-not_after_extension false row next rows x front e forked = refl
-not_after_extension true row next rows x front e forked = cc
+not_after_extension : (after_extension : Bool) (row next : Row) (rows : List Row) (x : ℕ) (prefix : List ℕ) → common_prefix row (next ∷ rows) ≡ x ∷ prefix → IsForked after_extension (row ∷ next ∷ rows) → after_extension ≡ false
+not_after_extension false row next rows x prefix e forked = refl
+not_after_extension true row next rows x prefix e forked = cc
 
 -- ---- the nodes of rows that stand so
 
@@ -238,7 +238,7 @@ leaf_fits row depth after_extension h =
     let place : HasPlace depth after_extension (tree_of (row ∷ [])) = subst (HasPlace depth after_extension) (sym t) (leaf_place depth after_extension row h) in
     subst (FitsBelow depth after_extension) (sym t) (subst (TopFits depth after_extension) t (standing_top depth after_extension (row ∷ []) h place))
 
-branch_fits : (row next : Row) (rows : List Row) → common_front row (next ∷ rows) ≡ [] → ((x : ℕ) → FitsWhereItStands (below (x ∷ []) (row ∷ next ∷ rows))) → FitsWhereItStands (row ∷ next ∷ rows)
+branch_fits : (row next : Row) (rows : List Row) → common_prefix row (next ∷ rows) ≡ [] → ((x : ℕ) → FitsWhereItStands (below (x ∷ []) (row ∷ next ∷ rows))) → FitsWhereItStands (row ∷ next ∷ rows)
 unfolding node_of
 branch_fits row next rows e further depth after_extension h =
     let rs : List Row = row ∷ next ∷ rows in
@@ -251,19 +251,19 @@ branch_fits row next rows e further depth after_extension h =
       λ x past. ap tree_of (none_past x past rs h.small) ∙ tree_of-nil,
     )
 
-extension_fits : (row next : Row) (rows : List Row) (x : ℕ) (front : List ℕ) → common_front row (next ∷ rows) ≡ x ∷ front → FitsWhereItStands (below (x ∷ front) (row ∷ next ∷ rows)) → FitsWhereItStands (row ∷ next ∷ rows)
+extension_fits : (row next : Row) (rows : List Row) (x : ℕ) (prefix : List ℕ) → common_prefix row (next ∷ rows) ≡ x ∷ prefix → FitsWhereItStands (below (x ∷ prefix) (row ∷ next ∷ rows)) → FitsWhereItStands (row ∷ next ∷ rows)
 unfolding node_of
-extension_fits row next rows x front e further depth after_extension h =
+extension_fits row next rows x prefix e further depth after_extension h =
     let rs : List Row = row ∷ next ∷ rows in
-    let t = tree_of-shares row next rows x front e in
-    let forked = forked_below (x ∷ front) row next rows e in
-    let child = standing-below (x ∷ front) depth after_extension true rs h forked in
-    let room = room_of_forked (depth + length (x ∷ front)) (below (x ∷ front) rs) child in
-    let place : HasPlace depth after_extension (tree_of rs) = subst (HasPlace depth after_extension) (sym t) (extension_place depth after_extension (x ∷ front) _ room (not_after_extension after_extension row next rows x front e h.forked)) in
+    let t = tree_of-shares row next rows x prefix e in
+    let forked = forked_below (x ∷ prefix) row next rows e in
+    let child = standing-below (x ∷ prefix) depth after_extension true rs h forked in
+    let room = room_of_forked (depth + length (x ∷ prefix)) (below (x ∷ prefix) rs) child in
+    let place : HasPlace depth after_extension (tree_of rs) = subst (HasPlace depth after_extension) (sym t) (extension_place depth after_extension (x ∷ prefix) _ room (not_after_extension after_extension row next rows x prefix e h.forked)) in
     subst (FitsBelow depth after_extension) (sym t) (
       subst (TopFits depth after_extension) t (standing_top depth after_extension rs h place),
-      further (depth + length (x ∷ front)) true child,
-      rows_there (below (x ∷ front) rs) forked,
+      further (depth + length (x ∷ prefix)) true child,
+      rows_there (below (x ∷ prefix) rs) forked,
     )
 
 rows_fit : (rows : List Row) → FitsWhereItStands rows

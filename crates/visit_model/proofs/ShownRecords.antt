@@ -8,7 +8,7 @@ use Rattle.byte_model.specs.Node as node
 use Rattle.byte_model.specs.Node.{Node, ValueRef, spelled}
 use Rattle.byte_model.specs.Laws.{SameNode}
 use Rattle.record_model.specs.Fields.{start_of, ◌>>=◌, end_of}
-use Rattle.record_model.specs.Records.{RecordFault, shape, Layout, branch, IsRecord, bit, bits_below, kid_in, has_shape, shaped, node_in, layout_at, layout_of, record_in}
+use Rattle.record_model.specs.Records.{RecordFault, shape, Layout, branch, IsRecord, bit, bits_below, child_in, has_shape, shaped, node_in, layout_at, layout_of, record_in}
 use Rattle.record_model.proofs.Layouts.{spelled_layout, FitsLayout, layout_again}
 use Rattle.record_model.proofs.Kids.{bitmap_of, digests_of, bitmap_of-fits}
 use Rattle.record_model.proofs.Nodes.{record_in-only}
@@ -25,8 +25,8 @@ IsReadAs n usage read = IsOkAnd read (λ r. SameNode r.0 n × (r.1 ≡ usage) ×
 
 -- ---- a branch of sixteen bits has no child past them
 
-kid_past : (bitmap : ℕ) (digests : List ℕ) → bitmap < 2 ^ 16 → (x : ℕ) → 16 ≤ x → kid_in bitmap digests x ≡ None
-kid_past bitmap digests small x past =
+child_past : (bitmap : ℕ) (digests : List ℕ) → bitmap < 2 ^ 16 → (x : ℕ) → 16 ≤ x → child_in bitmap digests x ≡ None
+child_past bitmap digests small x past =
     let power : 2 ^ 16 ≤ 2 ^ x = pow_mono past in
     let none : bitmap / 2 ^ x ≡ 0 = div-eq_of_lt (omega arith) in
     let clear : (bit bitmap x == 1) ≡ false = ne_eqb (bit bitmap x) 1 (λ e. omega arith) in
@@ -38,7 +38,7 @@ abbrev layout_from : Option ValueRef → (ℕ → Option (List ℕ)) → Layout
 layout_from value kids = branch value (bitmap_of kids) (digests_of kids)
 
 spelled-layout_from : (value : Option ValueRef) (kids : ℕ → Option (List ℕ)) (usage : ℕ) → spelled (node.branch value kids) usage ≡ spelled_layout (layout_from value kids) usage
-unfolding spelled node.spelled_kids
+unfolding spelled node.spelled_children
 spelled-layout_from None kids usage = refl
 spelled-layout_from (Some value) kids usage = refl
 
@@ -62,9 +62,9 @@ HasNoKidsPast read = IfOk read (λ r. NoKidsPast r.0)
 branch_past : (value : Option ValueRef) (kids : ℕ → Option (List ℕ)) (usage : ℕ) (bytes : List ℕ) → IsRecord (node.branch value kids) usage bytes → HasNoKidsPast (record_in bytes)
 unfolding record_in node_in shaped
 branch_past value kids usage bytes is =
-    let found : Node = node.branch value (kid_in (bitmap_of kids) (digests_of kids)) in
+    let found : Node = node.branch value (child_in (bitmap_of kids) (digests_of kids)) in
     rw (branch_layout value kids usage bytes is) (elim (has_shape found) as (λ b. HasNoKidsPast ((if b then Ok found else Err shape) >>= λ n. Ok (n, usage))) [
-      | true ↦ kid_past (bitmap_of kids) (digests_of kids) (bitmap_of-fits kids is.fields.1).0
+      | true ↦ child_past (bitmap_of kids) (digests_of kids) (bitmap_of-fits kids is.fields.1).0
       | false ↦ tt
     ])
 

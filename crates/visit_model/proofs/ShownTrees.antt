@@ -6,18 +6,18 @@ use mathlib.Core.Path.{fun_ext}
 use Rattle.sha2.specs.Sha256.{sha256}
 use Rattle.byte_model.specs.PackedPath.{longest_path}
 use Rattle.byte_model.specs.Node as node
-use Rattle.byte_model.specs.Node.{Node, ValueRef, longest_value, kid_count}
+use Rattle.byte_model.specs.Node.{Node, ValueRef, longest_value, child_count}
 use Rattle.byte_model.specs.Laws.{SameNode}
 use Rattle.record_model.specs.Records.{IsRecord, RecordFault, record_in}
 use Rattle.record_model.specs.Fits.{fits_at, has_place, is_whole}
-use Rattle.record_model.proofs.Kids.{kid_count-same}
+use Rattle.record_model.proofs.Kids.{child_count-same}
 use Rattle.trie_model.specs.Tree.{Tree, nothing, leaf, branch, extension}
 use Rattle.trie_model.specs.Texts.{text, usage, name_of, node_of, value_ref}
 use Rattle.trie_model.specs.Root.{Table}
 use Rattle.trie_model.proofs.Members.{IsIn, in-joined_below}
 use Rattle.trie_model.proofs.Places.{gathered, tree_texts}
 use Rattle.visit_model.specs.Seen as seen
-use Rattle.visit_model.specs.Seen.{Seen, seen_kid, seen_node, seen_record, seen_text, seen_at}
+use Rattle.visit_model.specs.Seen.{Seen, seen_child, seen_node, seen_record, seen_text, seen_at}
 use Rattle.visit_model.specs.Shown.{shown}
 use Rattle.visit_model.proofs.SeenBounds.{seen_at-seen_text, place_fits, branch_room, extension_room}
 use Rattle.visit_model.proofs.ShownRecords.{NoKidsPast, IsReadAs, read_as}
@@ -25,10 +25,10 @@ use Rattle.visit_model.proofs.ShownFits.{IsThere, FitsBelow}
 
 -- ---- the same node fits at the same places
 
-branch-same : (depth : ℕ) (after_extension : Bool) (value : Option ValueRef) (kids others : ℕ → Option (List ℕ)) → kid_count kids ≡ kid_count others → fits_at depth after_extension (node.branch value kids) ≡ fits_at depth after_extension (node.branch value others)
+branch-same : (depth : ℕ) (after_extension : Bool) (value : Option ValueRef) (kids others : ℕ → Option (List ℕ)) → child_count kids ≡ child_count others → fits_at depth after_extension (node.branch value kids) ≡ fits_at depth after_extension (node.branch value others)
 unfolding has_place
 branch-same depth after_extension None kids others count = ap (λ n. nat_le 2 n && nat_lt depth longest_path) count
-branch-same depth after_extension (Some value) kids others count = ap (λ n. (nat_le value.size longest_value && nat_le 1 n) && (nat_lt depth longest_path && is_whole depth)) count
+branch-same depth after_extension (Some value) kids others count = ap (λ n. (nat_le value.length longest_value && nat_le 1 n) && (nat_lt depth longest_path && is_whole depth)) count
 
 fits_at-same : (depth : ℕ) (after_extension : Bool) (m n : Node) → SameNode m n → fits_at depth after_extension m ≡ fits_at depth after_extension n
 fits_at-same depth after_extension (node.leaf path value) (node.leaf other_path other_value) same = ap₂ (λ p v. fits_at depth after_extension (node.leaf p v)) same.0 same.1
@@ -36,7 +36,7 @@ fits_at-same depth after_extension (node.leaf path value) (node.branch other kid
 fits_at-same depth after_extension (node.leaf path value) (node.extension other child) same = absurd same
 fits_at-same depth after_extension (node.branch value kids) (node.leaf path other) same = absurd same
 fits_at-same depth after_extension (node.branch value kids) (node.branch other others) same =
-    ap (λ v. fits_at depth after_extension (node.branch v kids)) same.0 ∙ branch-same depth after_extension other kids others (kid_count-same kids others same.1)
+    ap (λ v. fits_at depth after_extension (node.branch v kids)) same.0 ∙ branch-same depth after_extension other kids others (child_count-same kids others same.1)
 fits_at-same depth after_extension (node.branch value kids) (node.extension other child) same = absurd same
 fits_at-same depth after_extension (node.extension path child) (node.leaf other value) same = absurd same
 fits_at-same depth after_extension (node.extension path child) (node.branch value kids) same = absurd same
@@ -86,16 +86,16 @@ module _ (table : Table) where
   leaf_shows depth path value (node.branch v kids) same none = absurd same
   leaf_shows depth path value (node.extension p child) same none = absurd same
 
-  kid_seen : (depth : ℕ) (tree : Tree) → (IsThere tree → Sees depth false tree) → seen_kid (seen_at table depth false) (name_of tree (text tree)) ≡ shown tree
-  unfolding seen_kid name_of shown
-  kid_seen depth nothing sees = refl
-  kid_seen depth (leaf path value) sees = sees tt
-  kid_seen depth (branch value kids) sees = sees tt
-  kid_seen depth (extension path child) sees = sees tt
+  child_seen : (depth : ℕ) (tree : Tree) → (IsThere tree → Sees depth false tree) → seen_child (seen_at table depth false) (name_of tree (text tree)) ≡ shown tree
+  unfolding seen_child name_of shown
+  child_seen depth nothing sees = refl
+  child_seen depth (leaf path value) sees = sees tt
+  child_seen depth (branch value kids) sees = sees tt
+  child_seen depth (extension path child) sees = sees tt
 
-  no_kid_seen : (depth : ℕ) (tree : Tree) (kid : Option (List ℕ)) → kid ≡ None → tree ≡ nothing → seen_kid (seen_at table depth false) kid ≡ shown tree
-  unfolding seen_kid shown
-  no_kid_seen depth tree kid none e = ap (seen_kid (seen_at table depth false)) none ∙ ap shown (sym e)
+  no_child_seen : (depth : ℕ) (tree : Tree) (child : Option (List ℕ)) → child ≡ None → tree ≡ nothing → seen_child (seen_at table depth false) child ≡ shown tree
+  unfolding seen_child shown
+  no_child_seen depth tree child none e = ap (seen_child (seen_at table depth false)) none ∙ ap shown (sym e)
 
   branch_shows : (depth : ℕ) (value : Option (List ℕ)) (kids : ℕ → Tree) → ((x : ℕ) → x < 16 → IsThere (kids x) → Sees (depth + 1) false (kids x)) → ((x : ℕ) → 16 ≤ x → kids x ≡ nothing) → Shows depth (branch value kids) (node.branch (option_map value_ref value) (λ x. name_of (kids x) (text (kids x))))
   unfolding seen_node shown
@@ -103,9 +103,9 @@ module _ (table : Table) where
   branch_shows depth value kids further past (node.branch v ks) same none =
       ap₂ (seen.branch (sha256 (text (branch value kids))) (usage (branch value kids))) same.0 (fun_ext (λ x. each x (cases_lt x 16)))
     where
-      each : (x : ℕ) → (x < 16) ⊎ (16 ≤ x) → seen_kid (seen_at table (depth + 1) false) (ks x) ≡ shown (kids x)
-      each x (inl small) = ap (seen_kid (seen_at table (depth + 1) false)) (same.1 x small) ∙ kid_seen (depth + 1) (kids x) (further x small)
-      each x (inr large) = no_kid_seen (depth + 1) (kids x) (ks x) (none x large) (past x large)
+      each : (x : ℕ) → (x < 16) ⊎ (16 ≤ x) → seen_child (seen_at table (depth + 1) false) (ks x) ≡ shown (kids x)
+      each x (inl small) = ap (seen_child (seen_at table (depth + 1) false)) (same.1 x small) ∙ child_seen (depth + 1) (kids x) (further x small)
+      each x (inr large) = no_child_seen (depth + 1) (kids x) (ks x) (none x large) (past x large)
   branch_shows depth value kids further past (node.extension p child) same none = absurd same
 
   extension_shows : (depth : ℕ) (path : List ℕ) (child : Tree) → Sees (depth + length path) true child → Shows depth (extension path child) (node.extension path (sha256 (text child)))
@@ -125,9 +125,9 @@ module _ (table : Table) where
   top_held : (tree : Tree) → IsThere tree → AreHeld tree → get table (sha256 (text tree)) ≡ Some (text tree)
   top_held tree there held = held (text tree) (top_text tree there)
 
-  kid_held : (value : Option (List ℕ)) (kids : ℕ → Tree) (x : ℕ) → x < 16 → AreHeld (branch value kids) → AreHeld (kids x)
+  branch_child_held : (value : Option (List ℕ)) (kids : ℕ → Tree) (x : ℕ) → x < 16 → AreHeld (branch value kids) → AreHeld (kids x)
   unfolding gathered
-  kid_held value kids x small held t h = held t (inr (in-joined_below (λ i. gathered text (kids i)) 16 x t small h))
+  branch_child_held value kids x small held t h = held t (inr (in-joined_below (λ i. gathered text (kids i)) 16 x t small h))
 
   child_held : (path : List ℕ) (child : Tree) → AreHeld (extension path child) → AreHeld child
   unfolding gathered
@@ -142,7 +142,7 @@ module _ (table : Table) where
       let n : Node = node.branch (option_map value_ref value) (λ x. name_of (kids x) (text (kids x))) in
       let deeper = branch_room depth after_extension (option_map value_ref value) (λ x. name_of (kids x) (text (kids x))) (place_fits depth after_extension n fits.0.1) in
       text_seen depth after_extension (branch value kids) n room (top_held (branch value kids) tt held) fits.0.0 fits.0.1
-      (branch_shows depth value kids (λ x small there. tree_seen (kids x) (depth + 1) false deeper (fits.1 x) (kid_held value kids x small held) there) fits.2)
+      (branch_shows depth value kids (λ x small there. tree_seen (kids x) (depth + 1) false deeper (fits.1 x) (branch_child_held value kids x small held) there) fits.2)
   tree_seen (extension path child) depth after_extension room fits held there =
       let n : Node = node.extension path (sha256 (text child)) in
       let deeper = extension_room depth after_extension path (sha256 (text child)) (place_fits depth after_extension n fits.0.1) in

@@ -8,9 +8,9 @@ use Rattle.byte_model.specs.Node.{longest_value}
 use Rattle.trie_model.specs.State.{Row}
 use Rattle.trie_model.specs.Tree.{rest_behind}
 
--- whether a path begins with a front
-abbrev pub has_front : List ℕ → List ℕ → Bool
-has_front path front = is_some (rest_behind front path)
+-- whether a path begins with a prefix
+abbrev pub has_prefix : List ℕ → List ℕ → Bool
+has_prefix path prefix = is_some (rest_behind prefix path)
 
 -- whether a path, or a key, is not below a bound in its order
 abbrev pub reaches : List ℕ → List ℕ → Bool

@@ -6,11 +6,11 @@ use Rattle.trie_model.specs.Texts.{value_ref}
 use Rattle.trie_model.specs.Root.{text_at}
 use Rattle.trie_model.specs.Laws.{held_at}
 use Rattle.visit_model.specs.Steps.{Step, node, value}
-use Rattle.visit_model.specs.Bounds.{has_front, reaches}
+use Rattle.visit_model.specs.Bounds.{has_prefix, reaches}
 
 -- whether a listing from a bound on goes to a place: where it stands on the way to the bound, and where it is not below it
 abbrev pub is_listed_place : List ℕ → List ℕ → Bool
-is_listed_place bound place = has_front bound place || reaches bound place
+is_listed_place bound place = has_prefix bound place || reaches bound place
 
 -- the value of a row whose path is not below the bound
 abbrev pub row_steps : List ℕ → Option Row → List Step

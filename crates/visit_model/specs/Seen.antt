@@ -23,14 +23,14 @@ abbrev pub Looks : Type 0
 Looks = ℕ → Bool → List ℕ → Seen
 
 -- of a child, if the branch has one there
-unfoldable pub seen_kid : (List ℕ → Seen) → Option (List ℕ) → Seen
-seen_kid look None = nothing
-seen_kid look (Some digest) = look digest
+unfoldable pub seen_child : (List ℕ → Seen) → Option (List ℕ) → Seen
+seen_child look None = nothing
+seen_child look (Some digest) = look digest
 
 -- of a node that fits, by what is seen of its children
 unfoldable pub seen_node : Looks → ℕ → List ℕ → Node → ℕ → Seen
 seen_node look depth digest (node.leaf path value) usage = leaf digest usage path value
-seen_node look depth digest (node.branch value kids) usage = branch digest usage value (λ x. seen_kid (look (depth + 1) false) (kids x))
+seen_node look depth digest (node.branch value kids) usage = branch digest usage value (λ x. seen_child (look (depth + 1) false) (kids x))
 seen_node look depth digest (node.extension path child) usage = extension digest usage path (look (depth + length path) true child)
 
 -- of a text, by what its bytes spell

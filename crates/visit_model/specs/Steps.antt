@@ -18,7 +18,7 @@ abbrev pub value_steps : List ℕ → Option ValueRef → List Step
 value_steps path None = []
 value_steps path (Some ref) = value path ref ∷ []
 
--- the steps with what is left behind a front, if there is such a rest
+-- the steps with what is left behind a prefix, if there is such a rest
 unfoldable pub behind : (List ℕ → List Step) → Option (List ℕ) → List Step
 behind steps None = []
 behind steps (Some rest) = steps rest
@@ -48,11 +48,11 @@ lookup_steps (extension digest usage path child) before rest = node digest ∷ b
 
 -- ---- the listing of all keys from one on, by rising path
 
--- What is left of a lower bound on keys behind a front, where keys with the front can reach the bound: none of it where all of them are above.
+-- What is left of a lower bound on keys behind a prefix, where keys with the prefix can reach the bound: none of it where all of them are above.
 unfoldable pub bound_behind : List ℕ → List ℕ → Option (List ℕ)
 bound_behind [] bound = Some bound
-bound_behind (x ∷ front) [] = Some []
-bound_behind (x ∷ front) (y ∷ bound) = if x == y then bound_behind front bound else if nat_lt x y then None else Some []
+bound_behind (x ∷ prefix) [] = Some []
+bound_behind (x ∷ prefix) (y ∷ bound) = if x == y then bound_behind prefix bound else if nat_lt x y then None else Some []
 
 -- the value of a key that is not below the bound, by what is left of the bound behind the key
 unfoldable pub reached_steps : List ℕ → Option ValueRef → Option (List ℕ) → List Step

@@ -38,7 +38,7 @@ value_first digest row v = record { digests = digest ∷ v.digests; values = row
 unfoldable pub value_visit : List ℕ → ValueRef → Option (List ℕ) → Visits → Visits
 value_visit path ref None after = refused ref.digest (missing ref.digest)
 value_visit path ref (Some text) after =
-    if length text == ref.size then value_first ref.digest (path, text) after else refused ref.digest (bad ref.digest)
+    if length text == ref.length then value_first ref.digest (path, text) after else refused ref.digest (bad ref.digest)
 
 -- the steps in order, until so many values are visited
 unfoldable pub visits_of : Table → ℕ → List Step → Visits

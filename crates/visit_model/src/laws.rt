@@ -14,7 +14,7 @@ ghost use Rattle.trie_model.specs.State.{State, Row, IsState, rows_of};
 ghost use Rattle.visit_model.specs.Seen.{seen_at, seen_text, seen};
 ghost use Rattle.visit_model.specs.Shown.{shown};
 ghost use Rattle.visit_model.specs.Keys.{AreByteTexts, key_of};
-ghost use Rattle.visit_model.specs.Bounds.{has_front, reaches, at_most_one, IsListed};
+ghost use Rattle.visit_model.specs.Bounds.{has_prefix, reaches, at_most_one, IsListed};
 ghost use Rattle.visit_model.specs.Listed.{is_listed_place, place_steps};
 ghost use Rattle.visit_model.specs.Steps.{listing_steps};
 ghost use Rattle.visit_model.specs.Visits.{lookup_visits, listing_visits, top_visits, no_visits, node_first};
@@ -31,7 +31,7 @@ pub fn seen_of_state()
 
 /// Over the texts of a state, the lookup of a key visits each place on the key's path once, and then the value, if the state has the key. No test fails.
 pub fn lookup_over_state()
-    ensures digests { (table : Table) (state : State) (key : List ℕ) → Holds table state → IsState state → AreBytes key → (lookup_visits table (root state) key).digests ≡ map (λ place. sha256 (text_at state place)) (filter (has_front (nibbles key)) (places_of state)) ++ at_most_one (option_map sha256 (get state key)) }
+    ensures digests { (table : Table) (state : State) (key : List ℕ) → Holds table state → IsState state → AreBytes key → (lookup_visits table (root state) key).digests ≡ map (λ place. sha256 (text_at state place)) (filter (has_prefix (nibbles key)) (places_of state)) ++ at_most_one (option_map sha256 (get state key)) }
     ensures values { (table : Table) (state : State) (key : List ℕ) → Holds table state → IsState state → AreBytes key → (lookup_visits table (root state) key).values ≡ at_most_one (option_map (λ value. (nibbles key, value)) (get state key)) }
     ensures refusal { (table : Table) (state : State) (key : List ℕ) → Holds table state → IsState state → AreBytes key → (lookup_visits table (root state) key).refusal ≡ None }
 {}

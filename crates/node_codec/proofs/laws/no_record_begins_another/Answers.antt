@@ -1,5 +1,5 @@
-use Rattle.record_model.proofs.Nodes.{record-not_front}
+use Rattle.record_model.proofs.Nodes.{record-not_prefix}
 use Rattle.node_codec.proofs.laws.no_record_begins_another.Goals as goal
 
 pub returns : goal.returns
-returns c = record-not_front
+returns c = record-not_prefix

@@ -1,5 +1,5 @@
 use Rattle.std.proofs.Common.{ap, ◌∙◌, Err}
-use Rattle.script_io.specs.Shown.{event}
+use Rattle.script_io.specs.Meanings.{event}
 use Rattle.shard_cmd.proofs.Scripts.{lays_ok, lays_full}
 use Rattle.shard_cmd.proofs.root.lay.Goals as goal
 

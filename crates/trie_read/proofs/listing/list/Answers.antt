@@ -75,7 +75,7 @@ visit_place-requires-clause-place g c =
 pub visit_place-requires-clause-walk : goal.visit_place-requires-clause-walk
 visit_place-requires-clause-walk g c =
     let top = Stacked-pop (length c.loop-alloc.walk.path.items) c.pop.new.self.items c.in-Some.place (subst (Stacked (length c.loop-alloc.walk.path.items)) c.in-Some.ensures.items c.loop-alloc.invariant.walk_is.stacked) in
-    record { small = c.loop-alloc.invariant.walk_is.small; stacked = Stacked-widen c.in-Some.place.front (length c.loop-alloc.walk.path.items) c.pop.new.self.items top.is.front top.stacked }
+    record { small = c.loop-alloc.invariant.walk_is.small; stacked = Stacked-widen c.in-Some.place.prefix (length c.loop-alloc.walk.path.items) c.pop.new.self.items top.is.prefix top.stacked }
 
 pub visit_place-requires-clause-stacked : goal.visit_place-requires-clause-stacked
 visit_place-requires-clause-stacked g c =

@@ -11,11 +11,11 @@ overflow_add-result c =
     let short = c.requires.short in
     omega arith
 
-pub overflow_add-result-then-is_front : goal.overflow_add-result-then-is_front
-overflow_add-result-then-is_front c =
+pub overflow_add-result-then-is_prefix : goal.overflow_add-result-then-is_prefix
+overflow_add-result-then-is_prefix c =
     let count : length (nibbles c.args.key.now) ≡ 2 * length c.args.key.now = length-nibbles c.args.key.now in
     let depth = c.requires.depth in
     let short = c.requires.short in
-    let within : c.len-then-is_front.result ≤ length c.rest-rest.result = search rules in
+    let within : c.len-then-is_prefix.result ≤ length c.rest-rest.result = search rules in
     let left : length c.rest-rest.result ≡ length (nibbles c.args.key.now) - c.args.depth = ap length c.rest-rest.ensures ∙ length-drop c.args.depth c.new.result ∙ ap (λ (l : List ℕ). length l - c.args.depth) c.new.ensures in
     omega arith

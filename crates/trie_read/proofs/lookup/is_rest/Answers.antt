@@ -1,7 +1,7 @@
 use Rattle.std.proofs.Common.{ℕ, List, ap, ◌∙◌, subst}
 use Rattle.std.specs.Prelude.{nat_eq}
 use Rattle.nibble_keys.specs.CommonLength.{IsCommonLength}
-use Rattle.trie_read.proofs.Fronts.{common-both}
+use Rattle.trie_read.proofs.Prefixes.{common-both}
 use Rattle.trie_read.proofs.lookup.is_rest.Goals as goal
 
 pub returns-then-shared-len : goal.returns-then-shared-len

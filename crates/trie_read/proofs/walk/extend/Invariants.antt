@@ -3,7 +3,7 @@ use Rattle.byte_model.specs.Nibbles.{AreNibbles}
 use Rattle.trie_read.proofs.walk.extend.Given as goal
 
 pub record Copied (path old new : List ℕ) (i : ℕ) : Type 0 where
-  pub front : new ≡ old ++ take i path
+  pub prefix : new ≡ old ++ take i path
   pub small : AreNibbles old → AreNibbles new
 
 abbrev pub invariant-loop-i : goal.invariant-loop-i

@@ -3,15 +3,15 @@ use Rattle.trie_read.proofs.Bounded.{side-above, side-within, side-below_at, sid
 use Rattle.trie_read.proofs.walk.side_of.Goals as goal
 
 pub returns-then-shared-len : goal.returns-then-shared-len
-returns-then-shared-len c = side-above c.args.front.now c.args.bound.now c.common-shared.result c.common-shared.ensures (c.if-shared-len.true ∙ c.len.ensures)
+returns-then-shared-len c = side-above c.args.prefix.now c.args.bound.now c.common-shared.result c.common-shared.ensures (c.if-shared-len.true ∙ c.len.ensures)
 
 pub returns-then-shared-len-2 : goal.returns-then-shared-len-2
 returns-then-shared-len-2 c =
-    let all : c.common-shared.result ≡ length c.args.front.now = c.if-shared-len-2.true ∙ c.len-else-shared-len.ensures in
+    let all : c.common-shared.result ≡ length c.args.prefix.now = c.if-shared-len-2.true ∙ c.len-else-shared-len.ensures in
     let other : c.common-shared.result ≢ c.len.result = search rules in
     let within = c.common-shared.ensures.in_second in
     let count = c.len.ensures in
-    (side-within c.args.front.now c.args.bound.now c.common-shared.result c.common-shared.ensures all, omega arith)
+    (side-within c.args.prefix.now c.args.bound.now c.common-shared.result c.common-shared.ensures all, omega arith)
 
 pub returns-then-at : goal.returns-then-at
 returns-then-at c =
@@ -24,7 +24,7 @@ returns-then-at c =
     let less : c.at.result < c.at-else-shared-len-2.result = search rules in
     let left = c.at.ensures.value in
     let right = c.at-else-shared-len-2.ensures.value in
-    side-below_at c.args.front.now c.args.bound.now c.common-shared.result c.common-shared.ensures (omega arith) (omega arith) (omega arith)
+    side-below_at c.args.prefix.now c.args.bound.now c.common-shared.result c.common-shared.ensures (omega arith) (omega arith) (omega arith)
 
 pub returns-else-at : goal.returns-else-at
 returns-else-at c =
@@ -37,4 +37,4 @@ returns-else-at c =
     let most : c.at-else-shared-len-2.result ≤ c.at.result = search rules in
     let left = c.at.ensures.value in
     let right = c.at-else-shared-len-2.ensures.value in
-    side-above_at c.args.front.now c.args.bound.now c.common-shared.result c.common-shared.ensures (omega arith) (omega arith) (omega arith)
+    side-above_at c.args.prefix.now c.args.bound.now c.common-shared.result c.common-shared.ensures (omega arith) (omega arith) (omega arith)

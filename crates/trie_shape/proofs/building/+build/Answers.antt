@@ -2,11 +2,11 @@ use Rattle.std.proofs.Common.{◌≡◌, ◌+◌, ◌<◌, ◌≤◌, ◌^◌, l
 use Rattle.byte_model.specs.PackedPath.{longest_path}
 use Rattle.byte_model.specs.Node.{IsShaped, own_cost}
 use Rattle.byte_model.specs.Node as node
-use Rattle.node_codec.specs.Shown.{value_of, kids_of}
-use Rattle.trie_shape.specs.Seen.{seen}
+use Rattle.node_codec.specs.Meanings.{value_of, children_in}
+use Rattle.trie_shape.specs.RowsAt.{rows_at}
 use Rattle.trie_shape.proofs.Rising.{run-short}
-use Rattle.trie_shape.proofs.Branching.{gathered-none, length-seen, turn-rows, turn-fits, turn-adds, turn-more, IsGathered, end-shaped, end-shown, end-fits}
-use Rattle.trie_shape.proofs.Subtrees.{shown_may_write, empty-shown, one-shown, shared-front, deeper-short, deeper-rows, deeper-forks, deeper-fits, deep-first, several-shown}
+use Rattle.trie_shape.proofs.Branching.{gathered-none, length-rows_at, turn-rows, turn-fits, turn-adds, turn-more, IsGathered, end-shaped, end-shown, end-fits}
+use Rattle.trie_shape.proofs.Subtrees.{shown_may_write, empty-shown, one-shown, shared-prefix, deeper-short, deeper-rows, deeper-forks, deeper-fits, deep-first, several-shown}
 use Rattle.std.proofs.lemmas.Result.{IfOk-weaker}
 use Rattle.trie_shape.proofs.building.+build.Goals as goal
 
@@ -15,8 +15,8 @@ branch-loop-nibble-init t c = gathered-none c.args.depth c.args.rows.now c.endin
 
 pub branch-split_at-requires : goal.branch-split_at-requires
 branch-split_at-requires t c =
-    let short = run-short c.loop-nibble.nibble (seen c.args.depth c.loop-nibble.rest.now) in
-    let long = length-seen c.args.depth c.loop-nibble.rest.now in
+    let short = run-short c.loop-nibble.nibble (rows_at c.args.depth c.loop-nibble.rest.now) in
+    let long = length-rows_at c.args.depth c.loop-nibble.rest.now in
     let is = c.run_length.ensures in
     omega arith
 
@@ -25,10 +25,10 @@ branch-named-requires t c =
     let deeper : c.args.depth + 1 ≤ longest_path + 1 = omega arith in (
       search rules,
       (
-        turn-rows c.args.depth c.args.rows.now c.loop-nibble.rest.now c.loop-nibble.nibble c.loop-nibble.kids.value c.loop-nibble.kids_usage c.loop-nibble.invariant c.split_at.result.0.now c.split_at.result.1.now c.run_length.result c.run_length.ensures c.split_at.ensures.front c.split_at.ensures.back,
+        turn-rows c.args.depth c.args.rows.now c.loop-nibble.rest.now c.loop-nibble.nibble c.loop-nibble.kids.value c.loop-nibble.kids_usage c.loop-nibble.invariant c.split_at.result.0.now c.split_at.result.1.now c.run_length.result c.run_length.ensures c.split_at.ensures.prefix c.split_at.ensures.back,
         (
           deeper,
-          turn-fits c.args.depth c.args.rows.now c.loop-nibble.rest.now c.loop-nibble.nibble c.loop-nibble.kids.value c.loop-nibble.kids_usage c.loop-nibble.invariant c.split_at.result.0.now c.split_at.result.1.now c.run_length.result c.run_length.ensures c.split_at.ensures.front c.split_at.ensures.back
+          turn-fits c.args.depth c.args.rows.now c.loop-nibble.rest.now c.loop-nibble.nibble c.loop-nibble.kids.value c.loop-nibble.kids_usage c.loop-nibble.invariant c.split_at.result.0.now c.split_at.result.1.now c.run_length.result c.run_length.ensures c.split_at.ensures.prefix c.split_at.ensures.back
               c.requires.forks c.requires.two c.loop-nibble-test.true c.requires.fits,
         ),
       ),
@@ -36,13 +36,13 @@ branch-named-requires t c =
 
 pub branch-overflow_add-kids_usage : goal.branch-overflow_add-kids_usage
 branch-overflow_add-kids_usage t c = record {
-  fits = turn-adds c.args.depth c.args.rows.now c.loop-nibble.rest.now c.loop-nibble.nibble c.loop-nibble.kids.value c.loop-nibble.kids_usage c.loop-nibble.invariant c.split_at.result.0.now c.split_at.result.1.now c.run_length.result c.run_length.ensures c.split_at.ensures.front c.split_at.ensures.back
+  fits = turn-adds c.args.depth c.args.rows.now c.loop-nibble.rest.now c.loop-nibble.nibble c.loop-nibble.kids.value c.loop-nibble.kids_usage c.loop-nibble.invariant c.split_at.result.0.now c.split_at.result.1.now c.run_length.result c.run_length.ensures c.split_at.ensures.prefix c.split_at.ensures.back
       c.requires.forks c.requires.two c.loop-nibble-test.true c.requires.fits (c.in_ok-name.name, c.in_ok-name.usage) c.in_ok-name.ensures;
 }
 
 pub branch-loop-nibble-preserved : goal.branch-loop-nibble-preserved
 branch-loop-nibble-preserved t c =
-    let more = turn-more c.args.depth c.args.rows.now c.loop-nibble.rest.now c.loop-nibble.nibble c.loop-nibble.kids.value c.loop-nibble.kids_usage c.loop-nibble.invariant c.split_at.result.0.now c.split_at.result.1.now c.run_length.result c.run_length.ensures c.split_at.ensures.front c.split_at.ensures.back
+    let more = turn-more c.args.depth c.args.rows.now c.loop-nibble.rest.now c.loop-nibble.nibble c.loop-nibble.kids.value c.loop-nibble.kids_usage c.loop-nibble.invariant c.split_at.result.0.now c.split_at.result.1.now c.run_length.result c.run_length.ensures c.split_at.ensures.prefix c.split_at.ensures.back
     c.loop-nibble-test.true (c.in_ok-name.name, c.in_ok-name.usage) c.in_ok-name.ensures in
     let kids = c.set.ensures.value ∙ ap (λ kids. set kids c.loop-nibble.nibble c.in_ok-name.name) c.deref_mut.ensures.value in
     subst (λ kids. IsGathered c.args.depth c.args.rows.now c.split_at.result.1.now (c.loop-nibble.nibble + 1) kids (c.loop-nibble.kids_usage + c.in_ok-name.usage)) (sym kids) more
@@ -54,8 +54,8 @@ branch-fork_of-requires t c =
     let shaped = end-shaped c.args.depth c.args.rows.now c.loop-nibble.rest.now c.loop-nibble.nibble c.loop-nibble.kids.value c.loop-nibble.kids_usage done c.loop-nibble.invariant c.requires.forks c.requires.two c.requires.rows value c.ending-value.ensures.value in
     let fits = end-fits c.args.depth c.args.rows.now c.loop-nibble.rest.now c.loop-nibble.nibble c.loop-nibble.kids.value c.loop-nibble.kids_usage done c.loop-nibble.invariant c.requires.forks c.requires.two value c.ending-value.ensures.value c.requires.fits in
     record {
-      shaped = subst (λ kids. IsShaped (node.branch value (kids_of kids))) (sym c.deref.ensures) shaped;
-      fits = subst (λ kids. own_cost (node.branch value (kids_of kids)) + c.loop-nibble.kids_usage < 2 ^ 64) (sym c.deref.ensures) fits;
+      shaped = subst (λ kids. IsShaped (node.branch value (children_in kids))) (sym c.deref.ensures) shaped;
+      fits = subst (λ kids. own_cost (node.branch value (children_in kids)) + c.loop-nibble.kids_usage < 2 ^ 64) (sym c.deref.ensures) fits;
     }
 
 pub branch-returns : goal.branch-returns
@@ -63,7 +63,7 @@ branch-returns t c =
     let done : c.loop-nibble.nibble ≡ 16 = omega arith in
     IfOk-weaker c.fork_of.result _ _ (λ sub shows.
     end-shown c.args.depth c.args.rows.now c.loop-nibble.rest.now c.loop-nibble.nibble c.loop-nibble.kids.value c.loop-nibble.kids_usage done c.loop-nibble.invariant c.requires.forks c.requires.two (option_map value_of c.ending-value.result.0) c.ending-value.ensures.value sub
-    (λ v trees e named used. shows v trees e (λ y h. ap (λ kids. kids_of kids y) c.deref.ensures ∙ named y h) used)) c.fork_of.ensures
+    (λ v trees e named used. shows v trees e (λ y h. ap (λ kids. children_in kids y) c.deref.ensures ∙ named y h) used)) c.fork_of.ensures
 
 pub named-name_of-requires : goal.named-name_of-requires
 named-name_of-requires t c =
@@ -84,7 +84,7 @@ subtree-returns-in-len1 t c = let one : length c.args.rows.now ≡ 1 = omega ari
 pub subtree-overflow_add-depth : goal.subtree-overflow_add-depth
 subtree-overflow_add-depth t c =
     let two = c.in-len2-up.len_at_least in
-    let shared = c.shared_length-shared.ensures ∙ shared-front c.args.depth c.args.rows.now _ (omega arith) c.requires.rows in
+    let shared = c.shared_length-shared.ensures ∙ shared-prefix c.args.depth c.args.rows.now _ (omega arith) c.requires.rows in
     let short = deeper-short c.args.depth c.shared_length-shared.result c.args.rows.now c.requires.rows shared (omega arith) in
     record { fits = omega arith }
 
@@ -92,7 +92,7 @@ pub subtree-branch-alloc-requires : goal.subtree-branch-alloc-requires
 subtree-branch-alloc-requires t c =
     let two = c.in-len2-up.len_at_least in
     let some : 1 ≤ length c.args.rows.now = omega arith in
-    let shared = c.shared_length-shared.ensures ∙ shared-front c.args.depth c.args.rows.now _ some c.requires.rows in
+    let shared = c.shared_length-shared.ensures ∙ shared-prefix c.args.depth c.args.rows.now _ some c.requires.rows in
     let short = deeper-short c.args.depth c.shared_length-shared.result c.args.rows.now c.requires.rows shared some in (
       search rules,
       (
@@ -114,12 +114,12 @@ pub subtree-under_nibbles-requires : goal.subtree-under_nibbles-requires
 subtree-under_nibbles-requires t c =
     let two = c.in-len2-up.len_at_least in
     let some : 1 ≤ length c.args.rows.now = omega arith in
-    let shared = c.shared_length-shared.ensures ∙ shared-front c.args.depth c.args.rows.now _ some c.requires.rows in
+    let shared = c.shared_length-shared.ensures ∙ shared-prefix c.args.depth c.args.rows.now _ some c.requires.rows in
     deep-first c.args.depth c.shared_length-shared.result c.args.rows.now c.requires.rows shared _ some
 
 pub subtree-returns-in_ok-fork-in-len2-up : goal.subtree-returns-in_ok-fork-in-len2-up
 subtree-returns-in_ok-fork-in-len2-up t c =
     let two = c.in-len2-up.len_at_least in
     let some : 1 ≤ length c.args.rows.now = omega arith in
-    let shared = c.shared_length-shared.ensures ∙ shared-front c.args.depth c.args.rows.now _ some c.requires.rows in
+    let shared = c.shared_length-shared.ensures ∙ shared-prefix c.args.depth c.args.rows.now _ some c.requires.rows in
     IfOk-weaker c.under_nibbles.result _ _ (λ sub grows. several-shown c.args.depth c.shared_length-shared.result c.args.rows.now c.requires.rows shared _ sub _ some refl (grows _ c.in_ok-fork-in-len2-up.ensures)) c.under_nibbles.ensures

@@ -1,7 +1,7 @@
 use Rattle.std.proofs.Common.{◌≡◌, length, Some, ap, sym, ◌∙◌}
 use Rattle.std.proofs.lemmas.List.{nil_from_length}
 use Rattle.byte_model.specs.Nibbles.{nibbles}
-use Rattle.trie_shape.proofs.SeenLemmas.{ends-row, left-row, goes-row, left-goes, no-row}
+use Rattle.trie_shape.proofs.RowsAt.{ends-row, left-row, goes-row, left-goes, no-row}
 use Rattle.trie_shape.proofs.rows.ending.Goals as goal
 
 pub returns-in_default-clause-value : goal.returns-in_default-clause-value

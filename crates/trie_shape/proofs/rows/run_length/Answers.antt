@@ -1,8 +1,8 @@
 use Rattle.std.proofs.Common.{rules}
 use Rattle.std.proofs.lemmas.List.Sorted.{IsPartitionPoint-from_clause}
 use Rattle.trie_shape.specs.Runs.{goes_on}
-use Rattle.trie_shape.specs.Seen.{row_at}
-use Rattle.trie_shape.proofs.SeenLemmas.{parted, point-run}
+use Rattle.trie_shape.specs.RowsAt.{row_at}
+use Rattle.trie_shape.proofs.RowsAt.{parted, point-run}
 use Rattle.trie_shape.proofs.rows.run_length.Goals as goal
 
 pub returns : goal.returns

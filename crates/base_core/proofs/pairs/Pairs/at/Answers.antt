@@ -1,6 +1,6 @@
 use Rattle.std.proofs.Common.{◌<◌, length, sym, subst}
 use Rattle.std.specs.FinMap.{entries}
-use Rattle.base_core.proofs.HeldLemmas.{entries-held, length-held}
+use Rattle.base_core.proofs.PairMaps.{entries-held, length-held}
 use Rattle.base_core.proofs.pairs.Pairs.at.Goals as goal
 
 pub pair_at-requires : goal.pair_at-requires

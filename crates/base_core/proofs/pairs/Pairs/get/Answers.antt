@@ -1,5 +1,5 @@
 use Rattle.std.proofs.Common.{Some, ap, ◌∙◌}
-use Rattle.base_core.proofs.HeldLemmas.{get-held}
+use Rattle.base_core.proofs.PairMaps.{get-held}
 use Rattle.base_core.proofs.pairs.Pairs.get.Goals as goal
 
 pub returns-in-Some : goal.returns-in-Some

@@ -1,5 +1,5 @@
 use Rattle.std.proofs.Common.{sym, ◌∙◌}
-use Rattle.base_core.proofs.HeldLemmas.{length-held}
+use Rattle.base_core.proofs.PairMaps.{length-held}
 use Rattle.base_core.proofs.pairs.Pairs.len.Goals as goal
 
 pub returns-clause-len : goal.returns-clause-len

@@ -1,4 +1,4 @@
-use Rattle.base_core.proofs.HeldLemmas.{kept-none, state-none}
+use Rattle.base_core.proofs.PairMaps.{kept-none, state-none}
 use Rattle.base_core.proofs.pairs.Pairs.new.Goals as goal
 
 pub invariant_of-result : goal.invariant_of-result

@@ -1,7 +1,7 @@
 use Rattle.std.proofs.Common.{◌≡◌, None, sym, ◌∙◌, subst}
 use Rattle.byte_model.specs.Nibbles.{AreBytes}
-use Rattle.base_core.specs.Held.{refusal, laid}
-use Rattle.base_core.proofs.HeldLemmas.{kept-taken, state-put}
+use Rattle.base_core.specs.PairMaps.{refusal, laid}
+use Rattle.base_core.proofs.PairMaps.{kept-taken, state-put}
 use Rattle.base_core.proofs.pairs.Pairs.put.Goals as goal
 
 pub invariant_of-self : goal.invariant_of-self

@@ -1,6 +1,6 @@
 use Rattle.std.proofs.Common.{◌≡◌, true, false, ◌≤◌, length, arith, sym, inl, inr, ap, ◌∙◌, is_some, subst}
 use Rattle.std.specs.FinMap.{entries, contains_key}
-use Rattle.base_core.proofs.HeldLemmas.{refusal-full, refusal-none, get-held}
+use Rattle.base_core.proofs.PairMaps.{refusal-full, refusal-none, get-held}
 use Rattle.base_core.proofs.pairs.Pairs.refusal.Goals as goal
 use Rattle.base_core.proofs.pairs.Pairs.refusal.Goals.{else-len-self-via-then-len-self+else-not-contains_key, else-len-self-via-else-len-self}
 

@@ -1,4 +1,4 @@
-use Rattle.base_core.proofs.HeldLemmas.{entries-held}
+use Rattle.base_core.proofs.PairMaps.{entries-held}
 use Rattle.base_core.proofs.pairs.Pairs.rows.Goals as goal
 
 pub returns-clause-rows : goal.returns-clause-rows

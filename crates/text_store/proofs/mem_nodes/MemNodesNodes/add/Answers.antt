@@ -2,9 +2,9 @@ use Rattle.std.proofs.Common.{◌≢◌, ◌≤◌, cond, IfNone, ◌+◌, ◌<�
 use Rattle.std.specs.FinMap.{get}
 use Rattle.text_store.proofs.Keyed.{apart_by_eq, apart_by_ne, same_by_ne}
 use Rattle.text_store.specs.Counting.{Adds}
-use Rattle.text_store.specs.Memory.{count_in}
+use Rattle.text_store.specs.StoreStates.{count_in}
 use Rattle.text_store.proofs.Stored.{stored-unchanged, stored-adds}
-use Rattle.text_store.proofs.StockLemmas.{unchanged-told, adds-told, clashes-other, clashes-same, clashes-none}
+use Rattle.text_store.proofs.StoreStates.{unchanged-told, adds-told, clashes-other, clashes-same, clashes-none}
 use Rattle.text_store.proofs.Changes.{count_seen, text-found, text-missing, count-found, put-back, unchanged-same, Puts, adds-new, adds-more, counted-more}
 use Rattle.text_store.proofs.mem_nodes.MemNodesNodes.add.Goals as goal
 use Rattle.text_store.proofs.mem_nodes.MemNodesNodes.add.Goals.{in-Ok+in-Some-1, in-Ok+in-None-1, in-Err-1}

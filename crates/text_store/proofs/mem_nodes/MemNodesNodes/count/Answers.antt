@@ -1,5 +1,5 @@
 use Rattle.std.proofs.Common.{sym, ◌∙◌, ap}
-use Rattle.text_store.specs.Memory.{count_in}
+use Rattle.text_store.specs.StoreStates.{count_in}
 use Rattle.text_store.proofs.Changes.{count-found, count-missing}
 use Rattle.text_store.proofs.mem_nodes.MemNodesNodes.count.Goals as goal
 

@@ -1,8 +1,8 @@
 use Rattle.std.proofs.Common.{◌≤◌, ◌-◌, is_some, sym, subst, ap, arith}
 use Rattle.text_store.specs.Counting.{Releases}
-use Rattle.text_store.specs.Memory.{texts_of, count_in}
+use Rattle.text_store.specs.StoreStates.{texts_of, count_in}
 use Rattle.text_store.proofs.Stored.{stored-releases}
-use Rattle.text_store.proofs.StockLemmas.{releases-told}
+use Rattle.text_store.proofs.StoreStates.{releases-told}
 use Rattle.text_store.proofs.Changes.{count_seen, count-found, releases-put, releases-taken, releases-none}
 use Rattle.text_store.proofs.mem_nodes.MemNodesNodes.release.Goals as goal
 use Rattle.text_store.proofs.mem_nodes.MemNodesNodes.release.Goals.{in-Some-1, in-None-1}

@@ -1,5 +1,5 @@
 use Rattle.text_store.proofs.Stored.{stored-unchanged}
-use Rattle.text_store.proofs.StockLemmas.{unchanged-told}
+use Rattle.text_store.proofs.StoreStates.{unchanged-told}
 use Rattle.text_store.proofs.Changes.{unchanged-same}
 use Rattle.text_store.proofs.mem_nodes.MemNodesNodes.reserve.Goals as goal
 

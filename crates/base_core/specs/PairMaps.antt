@@ -17,12 +17,12 @@ use Rattle.base_core.specs.declared.put_error.PutError.TheVariants.{KeyLong, Val
 abbrev pub Entry : Type 0
 Entry = List ℕ × List ℕ
 
-pub record Held : Type 0 where
+pub record PairMap : Type 0 where
   pub state : State
   pub most : ℕ
 
-abbrev pub held_code : Coded Held
-held_code =
+abbrev pub pair_map_code : Coded PairMap
+pair_map_code =
     code_by (State × ℕ) (coded× (map.code (coded_list coded_ℕ) (coded_list coded_ℕ)) coded_ℕ) (λ h. (h.state, h.most)) (λ p. record { state = p.0; most = p.1 }) (λ _. refl)
 
 -- the most pairs that a state may be asked to have
@@ -30,28 +30,28 @@ abbrev pub most_pairs : ℕ
 most_pairs = 4194304
 
 -- Keys and values are byte strings within the limits, and there are no more than may be.
-pub record IsHeld (held : Held) : Type 0 where
+pub record IsPairMap (held : PairMap) : Type 0 where
   pub pairs : AllByRecursion IsPair (entries held.state)
   pub few : length (entries held.state) ≤ held.most
   pub most : held.most ≤ most_pairs
 
 -- the entries of the tree in which the pairs are kept
-abbrev pub shown : List (Vec ℕ Global × List ℕ) → List Entry
-shown es = map (λ e. (e.0.items, e.1)) es
+abbrev pub shown_entries : List (Vec ℕ Global × List ℕ) → List Entry
+shown_entries es = map (λ e. (e.0.items, e.1)) es
 
-abbrev pub held_of : List (Vec ℕ Global × List ℕ) → ℕ → Held
-held_of es most = record { state = from_sorted (shown es); most = most }
+abbrev pub pair_map_of : List (Vec ℕ Global × List ℕ) → ℕ → PairMap
+pair_map_of es most = record { state = from_sorted (shown_entries es); most = most }
 
-pub record IsKept (es : List (Vec ℕ Global × List ℕ)) (most : ℕ) : Type 0 where
-  pub sorted : IsTrue (is_sorted (slice_cmp nat_cmp) (shown es))
-  pub held : IsHeld (held_of es most)
+pub record IsKeptSorted (es : List (Vec ℕ Global × List ℕ)) (most : ℕ) : Type 0 where
+  pub sorted : IsTrue (is_sorted (slice_cmp nat_cmp) (shown_entries es))
+  pub held : IsPairMap (pair_map_of es most)
 
 -- the state, with one pair laid over
-abbrev pub laid : Held → List ℕ → List ℕ → Held
+abbrev pub laid : PairMap → List ℕ → List ℕ → PairMap
 laid held key value = record { state = insert held.state key value; most = held.most }
 
 -- why a pair is not taken, if it is not
-abbrev pub refusal : Held → List ℕ → List ℕ → Option PutError
+abbrev pub refusal : PairMap → List ℕ → List ℕ → Option PutError
 refusal held key value =
     if nat_lt longest_key (length key) then Some (KeyLong (length key))
     else if nat_lt longest_value (length value) then Some (ValueLong (length value))

@@ -1,10 +1,10 @@
 use Rattle.std.proofs.Common.{arith, sym, ◌∙◌}
 use Rattle.std.proofs.lemmas.Grind.{common_steps}
 use Rattle.byte_model.specs.Below.{joined_below}
-use Rattle.byte_model.specs.Node.{spelled_kids}
+use Rattle.byte_model.specs.Node.{spelled_children}
 use Rattle.node_codec.proofs.Children.{digests-some, digests-none}
-use Rattle.node_codec.proofs.writing.put_kids.Goals as goal
-use Rattle.node_codec.proofs.writing.put_kids.Goals.{in-Some+in_ok-put_raw, in_default}
+use Rattle.node_codec.proofs.writing.put_children.Goals as goal
+use Rattle.node_codec.proofs.writing.put_children.Goals.{in-Some+in_ok-put_raw, in_default}
 
 pub loop-i-init : goal.loop-i-init
 unfolding joined_below
@@ -22,5 +22,5 @@ loop-i-preserved c =
     ]
 
 pub returns : goal.returns
-unfolding spelled_kids
+unfolding spelled_children
 returns c = grind (arith, common_steps)

@@ -6,7 +6,7 @@ use Rattle.std.proofs.Math.ListN.{get_or-append}
 use Rattle.std.proofs.lemmas.List.{take_all, take-append-drop}
 use Rattle.std.proofs.lemmas.Bool.{eq-eqb, eqb-true}
 use Rattle.trie_model.specs.Tree.{rest_behind}
-use Rattle.trie_model.proofs.Rests.{rest_behind-front, front_and_rest}
+use Rattle.trie_model.proofs.Rests.{rest_behind-prefix, prefix_and_rest}
 use Rattle.nibble_keys.specs.CommonLength.{IsCommonLength}
 
 -- it is all of both
@@ -34,23 +34,23 @@ common-other p q n shared less = go (pointwise nat_eq p q) refl
         let lengths : length p ≡ length q = ap length same in
         absurd (shared.longest (omega arith) (omega arith) (ap (λ (l : List ℕ). get_or l n 0) same))
 
--- the first is a front of the second
-pub common-front : (p q : List ℕ) (n : ℕ) → IsCommonLength p q n → nat_eq n (length p) ≡ is_some (rest_behind p q)
-common-front p q n shared = go (nat_eq n (length p)) (rest_behind p q) refl refl
+-- the first is a prefix of the second
+pub common-prefix : (p q : List ℕ) (n : ℕ) → IsCommonLength p q n → nat_eq n (length p) ≡ is_some (rest_behind p q)
+common-prefix p q n shared = go (nat_eq n (length p)) (rest_behind p q) refl refl
   where
     go : (a : Bool) (o : Option (List ℕ)) → nat_eq n (length p) ≡ a → rest_behind p q ≡ o → a ≡ is_some o
     go true (Some rest) e f = refl
     go false None e f = refl
     go true None e f =
         let all : n ≡ length p = eqb-true n (length p) e in
-        let whole : q ≡ p ++ drop n q = sym (take-append-drop n q) ∙ ap (λ (front : List ℕ). front ++ drop n q) (sym shared.shared ∙ take_all n p (omega arith)) in
-        let there : rest_behind p q ≡ Some (drop n q) = ap (rest_behind p) whole ∙ rest_behind-front p (drop n q) in
+        let whole : q ≡ p ++ drop n q = sym (take-append-drop n q) ∙ ap (λ (prefix : List ℕ). prefix ++ drop n q) (sym shared.shared ∙ take_all n p (omega arith)) in
+        let there : rest_behind p q ≡ Some (drop n q) = ap (rest_behind p) whole ∙ rest_behind-prefix p (drop n q) in
         absurd (none_some (sym f ∙ there))
       where
         none_some : {x : List ℕ} → None ≡ Some x → ⊥
         none_some e = cc
     go false (Some rest) e f =
-        let whole : q ≡ p ++ rest = front_and_rest p q rest f in
+        let whole : q ≡ p ++ rest = prefix_and_rest p q rest f in
         let lengths : length q ≡ length p + length rest = ap length whole ∙ length-append p rest in
         let within = shared.in_first in
         let not_all : n ≢ length p = λ all. true_false (sym (eq-eqb n (length p) all) ∙ e) in

@@ -13,7 +13,7 @@ abbrev pub one_more : ℕ → ℕ
 one_more n = min (n + 1) most_faults
 
 -- What a source in memory has left, how many bytes it gives at most in a read, which calls fail, how many calls there were, and how many failed.
-pub record Supply : Type 0 where
+pub record SourceState : Type 0 where
   pub left : List ℕ
   pub piece : ℕ
   pub fails : List ℕ
@@ -25,17 +25,17 @@ abbrev pub fails_next : List ℕ → ℕ → Bool
 fails_next fails calls = list_any (λ number. number == one_more calls) fails
 
 -- how many bytes the next read gives to a buffer with so much room, if it does not fail
-abbrev pub given : Supply → ℕ → ℕ
-given supply room = min supply.piece (min room (length supply.left))
+abbrev pub given : SourceState → ℕ → ℕ
+given source room = min source.piece (min room (length source.left))
 
 -- a source after a read into so much room
-abbrev pub after_read : Supply → ℕ → Supply
-after_read supply room = if fails_next supply.fails supply.calls
-    then record supply { calls = one_more supply.calls; faults = one_more supply.faults }
-    else record supply { calls = one_more supply.calls; left = drop (given supply room) supply.left }
+abbrev pub after_read : SourceState → ℕ → SourceState
+after_read source room = if fails_next source.fails source.calls
+    then record source { calls = one_more source.calls; faults = one_more source.faults }
+    else record source { calls = one_more source.calls; left = drop (given source room) source.left }
 
 -- What a sink in memory holds, how many bytes it holds at most, how many it takes at most in a write, which calls fail, how many calls there were, and how many failed.
-pub record Stock : Type 0 where
+pub record SinkState : Type 0 where
   pub bytes : List ℕ
   pub most : ℕ
   pub piece : ℕ
@@ -44,15 +44,15 @@ pub record Stock : Type 0 where
   pub faults : ℕ
 
 -- how many bytes the next write takes of a piece
-abbrev pub taken : Stock → List ℕ → ℕ
-taken stock piece = min stock.piece (min (stock.most - length stock.bytes) (length piece))
+abbrev pub taken : SinkState → List ℕ → ℕ
+taken sink piece = min sink.piece (min (sink.most - length sink.bytes) (length piece))
 
 -- whether the next write fails: its number is on the list, or no byte of the piece has room
-abbrev pub refuses : Stock → List ℕ → Bool
-refuses stock piece = if fails_next stock.fails stock.calls then nat_lt 0 1 else (taken stock piece == 0) && nat_lt 0 (length piece)
+abbrev pub refuses : SinkState → List ℕ → Bool
+refuses sink piece = if fails_next sink.fails sink.calls then nat_lt 0 1 else (taken sink piece == 0) && nat_lt 0 (length piece)
 
 -- a sink after a write of this piece
-abbrev pub after_write : Stock → List ℕ → Stock
-after_write stock piece = if refuses stock piece
-    then record stock { calls = one_more stock.calls; faults = one_more stock.faults }
-    else record stock { calls = one_more stock.calls; bytes = stock.bytes ++ take (taken stock piece) piece }
+abbrev pub after_write : SinkState → List ℕ → SinkState
+after_write sink piece = if refuses sink piece
+    then record sink { calls = one_more sink.calls; faults = one_more sink.faults }
+    else record sink { calls = one_more sink.calls; bytes = sink.bytes ++ take (taken sink piece) piece }

@@ -1,4 +1,4 @@
--- Pairs in the order of their keys, seen as rows from some nibble of their keys on.
+-- Pairs in the order of their keys, rows_at as rows from some nibble of their keys on.
 use Rattle.std.specs.Prelude.{◌≡◌, ℕ, ◌≤◌, List, [], ◌∷◌, map, drop, length}
 use Rattle.std.specs.Borrow.{Bor}
 use Rattle.std.specs.List.{AllByRecursion}
@@ -17,8 +17,8 @@ Lent = Bor (List ℕ) × Bor (List ℕ)
 abbrev pub row_at : ℕ → Lent → Row
 row_at depth row = (drop depth (path.nibbles row.0.now), row.1.now)
 
-abbrev pub seen : ℕ → List Lent → List Row
-seen depth rows = map (row_at depth) rows
+abbrev pub rows_at : ℕ → List Lent → List Row
+rows_at depth rows = map (row_at depth) rows
 
 -- the key reaches so deep, and both are within the limits
 pub record IsRowAt (depth : ℕ) (row : Lent) : Type 0 where
@@ -29,11 +29,11 @@ pub record IsRowAt (depth : ℕ) (row : Lent) : Type 0 where
 
 -- all do, and their keys rise from there on
 pub record AreRowsAt (depth : ℕ) (rows : List Lent) : Type 0 where
-  pub rises : Rises (seen depth rows)
+  pub rises : Rises (rows_at depth rows)
   pub each : AllByRecursion (IsRowAt depth) rows
 
 -- What is left of rows once those that end here, or go on with a nibble below x, are taken.
 pub record IsLeft (x depth : ℕ) (whole rest : List Lent) : Type 0 where
   pub rows : AreRowsAt depth rest
-  pub from : AllFrom x (seen depth rest)
-  pub below : (y : ℕ) → x ≤ y → tree.below (y ∷ []) (seen depth whole) ≡ tree.below (y ∷ []) (seen depth rest)
+  pub from : AllFrom x (rows_at depth rest)
+  pub below : (y : ℕ) → x ≤ y → tree.below (y ∷ []) (rows_at depth whole) ≡ tree.below (y ∷ []) (rows_at depth rest)

@@ -17,26 +17,26 @@ abbrev pub Counts : Type 0
 Counts = FinMap (slice_cmp nat_cmp) ℕ
 
 -- The texts and their counts, for how many further texts there is room, how many loads there were, and which calls fail.
-pub record Stock : Type 0 where
+pub record StoreState : Type 0 where
   pub texts : Table
   pub counts : Counts
   pub spare : ℕ
   pub loads : ℕ
   pub failing : Failing
 
-abbrev pub count_in : Stock → List ℕ → ℕ
-count_in stock digest = unwrap_or (get stock.counts digest) 0
+abbrev pub count_in : StoreState → List ℕ → ℕ
+count_in state digest = unwrap_or (get state.counts digest) 0
 
 -- after a load
-abbrev pub after_load : Stock → Stock
-after_load stock = record stock { loads = risen stock.loads 1; failing = after_call stock.failing }
+abbrev pub after_load : StoreState → StoreState
+after_load state = record state { loads = risen state.loads 1; failing = after_call state.failing }
 
 abbrev pub failing_code : Coded Failing
 failing_code =
     code_by (List ℕ × (ℕ × ℕ)) (coded× (coded_list coded_ℕ) (coded× coded_ℕ coded_ℕ)) (λ f. (f.fails, (f.calls, f.faults))) (λ p. record { fails = p.0; calls = p.1.0; faults = p.1.1 }) (λ _. refl)
 
-abbrev pub stock_code : Coded Stock
-stock_code =
+abbrev pub store_state_code : Coded StoreState
+store_state_code =
     code_by ((Table × Counts) × ((ℕ × ℕ) × Failing))
     (coded× (coded× (map.code (coded_list coded_ℕ) (coded_list coded_ℕ)) (map.code (coded_list coded_ℕ) coded_ℕ)) (coded× (coded× coded_ℕ coded_ℕ) failing_code))
     (λ s. ((s.texts, s.counts), ((s.spare, s.loads), s.failing)))

@@ -5,7 +5,7 @@ use Rattle.std.specs.FinMap.{get}
 use Rattle.base_core.specs.Faults.{Rose, IsCounted}
 use Rattle.text_store.specs.Loading.{Loaded, Keeps, risen}
 use Rattle.text_store.specs.Failing.{Failing, fails_next, after_call}
-use Rattle.text_store.specs.Memory.{Stock, count_in, after_load}
+use Rattle.text_store.specs.StoreStates.{StoreState, count_in, after_load}
 use Rattle.text_store.specs.Counting.{IsUnchanged, Adds, Releases, Clashes}
 use Rattle.trie_model.specs.Root.{Table, zero_digest}
 
@@ -27,15 +27,15 @@ counted-call f (Err e) h = record { no_fall = faults-no_fall f; rose = faults-ri
 
 -- ---- loads
 
-pub loaded-stock : (seen old : Stock) (loads : ℕ) (failing : Failing) → seen ≡ old → loads ≡ risen seen.loads 1 → failing ≡ after_call seen.failing → record seen { loads = loads; failing = failing } ≡ after_load old
-loaded-stock seen old loads failing e l f = (λ i. record seen { loads = l i; failing = f i }) ∙ ap after_load e
+pub loaded-state : (seen old : StoreState) (loads : ℕ) (failing : Failing) → seen ≡ old → loads ≡ risen seen.loads 1 → failing ≡ after_call seen.failing → record seen { loads = loads; failing = failing } ≡ after_load old
+loaded-state seen old loads failing e l f = (λ i. record seen { loads = l i; failing = f i }) ∙ ap after_load e
 
 keeps-nothing : {A E : Type 0} (digest : List ℕ) (result : Result (Option A) E) → Keeps None None digest result
 keeps-nothing digest (Ok (Some x)) = tt
 keeps-nothing digest (Ok None) = refl
 keeps-nothing digest (Err e) = refl
 
-pub loaded : {A E : Type 0} (old new : Stock) (digest : List ℕ) (result : Result (Option A) E) → new ≡ after_load old → (IsErr result → IsTrue (fails_next old.failing))
+pub loaded : {A E : Type 0} (old new : StoreState) (digest : List ℕ) (result : Result (Option A) E) → new ≡ after_load old → (IsErr result → IsTrue (fails_next old.failing))
     → ((old.texts ≡ new.texts) × (old.counts ≡ new.counts)) × Loaded old.loads new.loads old.failing.faults new.failing.faults None None digest result × (new ≡ after_load old)
 loaded old new digest result e h = (
   (ap (λ s. s.texts) (sym e), ap (λ s. s.counts) (sym e)),
@@ -48,12 +48,12 @@ loaded old new digest result e h = (
 )
 
 -- whether a call fails, told of the store
-pub same_failing : (seen old : Stock) {P : Type 0} → seen ≡ old → (P ↔ IsTrue (fails_next seen.failing)) → (P ↔ IsTrue (fails_next old.failing))
+pub same_failing : (seen old : StoreState) {P : Type 0} → seen ≡ old → (P ↔ IsTrue (fails_next seen.failing)) → (P ↔ IsTrue (fails_next old.failing))
 same_failing seen old {P} e h = subst (λ s. P ↔ IsTrue (fails_next s.failing)) e h
 
 -- ---- what is told of the store as it is seen
 
-module _ (seen old : Stock) (e : seen ≡ old) {after : Table} {count_after : List ℕ → ℕ} where
+module _ (seen old : StoreState) (e : seen ≡ old) {after : Table} {count_after : List ℕ → ℕ} where
   pub unchanged-told : IsUnchanged seen.texts after (count_in seen) count_after → IsUnchanged old.texts after (count_in old) count_after
   unchanged-told u = subst (λ s. IsUnchanged s.texts after (count_in s) count_after) e u
 

@@ -8,15 +8,15 @@ use Rattle.node_codec.specs.declared.node.Node.{Node}
 use Rattle.node_codec.specs.declared.node.Node.TheVariants.{Leaf, Branch, Extension}
 
 abbrev pub value_of : ValueRef → ValueOfRecord
-value_of value = record { size = value.length; digest = value.digest.0 }
+value_of value = record { length = value.length; digest = value.digest.0 }
 
 -- the bytes of the digest at each place, and nothing past the last one
-abbrev pub kids_of : List (Option Digest) → ℕ → Option (List ℕ)
-kids_of kids i = option_map (λ digest. digest.0) (slice_index_or kids i None)
+abbrev pub children_in : List (Option Digest) → ℕ → Option (List ℕ)
+children_in kids i = option_map (λ digest. digest.0) (slice_index_or kids i None)
 
 abbrev pub node_of : Node → NodeOfRecord
 node_of (Leaf path value) = leaf path (value_of value)
-node_of (Branch value kids) = branch (option_map value_of value) (kids_of kids.value)
+node_of (Branch value kids) = branch (option_map value_of value) (children_in kids.value)
 node_of (Extension path child) = extension path child.0
 
 -- the nibbles that a node has by itself
