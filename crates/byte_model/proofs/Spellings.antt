@@ -44,8 +44,8 @@ length-spelled_value value h =
 spelled_value-same : (v w : ValueRef) → NamesValue v → NamesValue w → spelled_value v ≡ spelled_value w → v ≡ w
 spelled_value-same v w h k e =
     let parts = split_prefix (borsh_u32 v.length) (borsh_u32 w.length) v.digest w.digest (length-borsh_u32 v.length ∙ sym (length-borsh_u32 w.length)) e in
-    let length = borsh_u32-same v.length w.length h.0 k.0 parts.0 in
-    λ i. record { length = size i; digest = parts.1 i }
+    let same = borsh_u32-same v.length w.length h.0 k.0 parts.0 in
+    λ i. record { length = same i; digest = parts.1 i }
 
 -- ---- paths
 

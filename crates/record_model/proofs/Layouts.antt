@@ -19,7 +19,7 @@ pub record TakesValue (c : Cursor) (read : ValueRef × Cursor) : Type 0 where
 
 value_taken : (c : Cursor) → AreBytes c.left → Gives (value_at c) (TakesValue c)
 unfolding value_at
-value_taken c small = and_then (number_taken four_bytes c small) (λ size h. and_then (bytes_taken 32 size.1 h.took.rest) (λ digest k. gives _ (record {
+value_taken c small = and_then (number_taken four_bytes c small) (λ count h. and_then (bytes_taken 32 count.1 h.took.rest) (λ digest k. gives _ (record {
   took = Takes-then h.took k.took;
   fits = (h.fits, k.count);
 })))

@@ -32,9 +32,9 @@ bits_below bitmap n = sum_below (bit bitmap) n
 
 unfoldable pub value_at : Cursor → Read ValueRef
 value_at c = do
-  size ← number_at w32 c
-  digest ← bytes_at 32 size.1
-  Ok (record { length = size.0; digest = digest.0 }, digest.1)
+  count ← number_at w32 c
+  digest ← bytes_at 32 count.1
+  Ok (record { length = count.0; digest = digest.0 }, digest.1)
 
 -- sixteen bits, and a digest for each that is set
 unfoldable pub children_at : Cursor → Read (ℕ × List ℕ)

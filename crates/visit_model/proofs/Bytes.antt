@@ -28,6 +28,6 @@ pub nibbles-seen : (table : Table) (root : List ℕ) → AreByteTexts table → 
 nibbles-seen table root bytes = all_seen table (λ depth name. AreNibbles name.0) (record {
   leaf = λ depth after_extension path ref h. (parts_fit h.text (node.leaf path ref) h.usage (bytes h.digest h.text h.held) h.spells).0;
   here = λ depth after_extension ref kids h. tt;
-  child = λ depth x name small k. (small, k);
-  child = λ depth after_extension path child h name k. AreNibbles-append path name.0 (parts_fit h.text (node.extension path child) h.usage (bytes h.digest h.text h.held) h.spells).0 k;
+  in_branch = λ depth x name small k. (small, k);
+  in_extension = λ depth after_extension path child h name k. AreNibbles-append path name.0 (parts_fit h.text (node.extension path child) h.usage (bytes h.digest h.text h.held) h.spells).0 k;
 }) root

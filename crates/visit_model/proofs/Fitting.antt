@@ -29,8 +29,8 @@ pub record WasRead (table : Table) (depth : ℕ) (after_extension : Bool) (n : N
 pub record PassesUp (table : Table) (P : ℕ → Named → Type 0) : Type 0 where
   pub leaf : (depth : ℕ) (after_extension : Bool) (path : List ℕ) (ref : ValueRef) → WasRead table depth after_extension (node.leaf path ref) → P depth (path, ref)
   pub here : (depth : ℕ) (after_extension : Bool) (ref : ValueRef) (kids : ℕ → Option (List ℕ)) → WasRead table depth after_extension (node.branch (Some ref) kids) → P depth ([], ref)
-  pub child : (depth x : ℕ) (name : Named) → x < 16 → P (depth + 1) name → P depth (x ∷ name.0, name.1)
-  pub child : (depth : ℕ) (after_extension : Bool) (path child : List ℕ) → WasRead table depth after_extension (node.extension path child) → (name : Named) → P (depth + length path) name → P depth (path ++ name.0, name.1)
+  pub in_branch : (depth x : ℕ) (name : Named) → x < 16 → P (depth + 1) name → P depth (x ∷ name.0, name.1)
+  pub in_extension : (depth : ℕ) (after_extension : Bool) (path child : List ℕ) → WasRead table depth after_extension (node.extension path child) → (name : Named) → P (depth + length path) name → P depth (path ++ name.0, name.1)
 
 all-beneath : (P Q : Named → Type 0) (prefix : List ℕ) → ((name : Named) → P name → Q (prefix ++ name.0, name.1)) → (names : List Named) → AllByRecursion P names → AllByRecursion Q (beneath prefix names)
 all-beneath P Q prefix step [] h = tt
@@ -65,9 +65,9 @@ module _ (table : Table) (P : ℕ → Named → Type 0) (passes : PassesUp table
   all_of_node look so depth after_extension digest (node.branch value kids) usage h =
       let child : ℕ → Seen = λ x. seen_child (look (depth + 1) false) (kids x) in
       all-append (P depth) (name_here value) (joined_below (λ x. beneath (x ∷ []) (named_in (child x))) 16) (all_here depth after_extension value kids h)
-      (all-joined_below (P depth) (λ x. beneath (x ∷ []) (named_in (child x))) 16 (λ x small. all-beneath (P (depth + 1)) (P depth) (x ∷ []) (λ name k. passes.child depth x name small k) (named_in (child x)) (all_of_child look so depth (kids x))))
+      (all-joined_below (P depth) (λ x. beneath (x ∷ []) (named_in (child x))) 16 (λ x small. all-beneath (P (depth + 1)) (P depth) (x ∷ []) (λ name k. passes.in_branch depth x name small k) (named_in (child x)) (all_of_child look so depth (kids x))))
   all_of_node look so depth after_extension digest (node.extension path child) usage h =
-      all-beneath (P (depth + length path)) (P depth) path (passes.child depth after_extension path child h) (named_in (look (depth + length path) true child)) (so (depth + length path) true child)
+      all-beneath (P (depth + length path)) (P depth) path (passes.in_extension depth after_extension path child h) (named_in (look (depth + length path) true child)) (so (depth + length path) true child)
 
   all_of_text : (look : Looks) → LooksSo look → (depth : ℕ) (after_extension : Bool) (digest : List ℕ) (text : Option (List ℕ)) → get table digest ≡ text → AllByRecursion (P depth) (named_in (seen_text look depth after_extension digest text))
   unfolding seen_text seen_record named_in
@@ -156,6 +156,6 @@ pub fit-seen : (table : Table) (root : List ℕ) → AllByRecursion (NameFits 0)
 fit-seen table root = all_seen table NameFits (record {
   leaf = λ depth after_extension path ref h. fits_leaf depth after_extension path ref h.fits;
   here = λ depth after_extension ref kids h. fits_here depth after_extension ref kids h.fits;
-  child = λ depth x name small h. fits_behind depth (x ∷ []) name h;
-  child = λ depth after_extension path child h name k. fits_behind depth path name k;
+  in_branch = λ depth x name small h. fits_behind depth (x ∷ []) name h;
+  in_extension = λ depth after_extension path child h name k. fits_behind depth path name k;
 }) root
