@@ -25,10 +25,10 @@ branch-named-requires t c =
     let deeper : c.args.depth + 1 ≤ longest_path + 1 = omega arith in (
       search rules,
       (
-        turn-rows c.args.depth c.args.rows.now c.loop-nibble.rest.now c.loop-nibble.nibble c.loop-nibble.kids.value c.loop-nibble.kids_usage c.loop-nibble.invariant c.split_at.result.0.now c.split_at.result.1.now c.run_length.result c.run_length.ensures c.split_at.ensures.prefix c.split_at.ensures.back,
+        turn-rows c.args.depth c.args.rows.now c.loop-nibble.rest.now c.loop-nibble.nibble c.loop-nibble.kids.value c.loop-nibble.kids_usage c.loop-nibble.invariant c.split_at.result.0.now c.split_at.result.1.now c.run_length.result c.run_length.ensures c.split_at.ensures.front c.split_at.ensures.back,
         (
           deeper,
-          turn-fits c.args.depth c.args.rows.now c.loop-nibble.rest.now c.loop-nibble.nibble c.loop-nibble.kids.value c.loop-nibble.kids_usage c.loop-nibble.invariant c.split_at.result.0.now c.split_at.result.1.now c.run_length.result c.run_length.ensures c.split_at.ensures.prefix c.split_at.ensures.back
+          turn-fits c.args.depth c.args.rows.now c.loop-nibble.rest.now c.loop-nibble.nibble c.loop-nibble.kids.value c.loop-nibble.kids_usage c.loop-nibble.invariant c.split_at.result.0.now c.split_at.result.1.now c.run_length.result c.run_length.ensures c.split_at.ensures.front c.split_at.ensures.back
               c.requires.forks c.requires.two c.loop-nibble-test.true c.requires.fits,
         ),
       ),
@@ -36,13 +36,13 @@ branch-named-requires t c =
 
 pub branch-overflow_add-kids_usage : goal.branch-overflow_add-kids_usage
 branch-overflow_add-kids_usage t c = record {
-  fits = turn-adds c.args.depth c.args.rows.now c.loop-nibble.rest.now c.loop-nibble.nibble c.loop-nibble.kids.value c.loop-nibble.kids_usage c.loop-nibble.invariant c.split_at.result.0.now c.split_at.result.1.now c.run_length.result c.run_length.ensures c.split_at.ensures.prefix c.split_at.ensures.back
+  fits = turn-adds c.args.depth c.args.rows.now c.loop-nibble.rest.now c.loop-nibble.nibble c.loop-nibble.kids.value c.loop-nibble.kids_usage c.loop-nibble.invariant c.split_at.result.0.now c.split_at.result.1.now c.run_length.result c.run_length.ensures c.split_at.ensures.front c.split_at.ensures.back
       c.requires.forks c.requires.two c.loop-nibble-test.true c.requires.fits (c.in_ok-name.name, c.in_ok-name.usage) c.in_ok-name.ensures;
 }
 
 pub branch-loop-nibble-preserved : goal.branch-loop-nibble-preserved
 branch-loop-nibble-preserved t c =
-    let more = turn-more c.args.depth c.args.rows.now c.loop-nibble.rest.now c.loop-nibble.nibble c.loop-nibble.kids.value c.loop-nibble.kids_usage c.loop-nibble.invariant c.split_at.result.0.now c.split_at.result.1.now c.run_length.result c.run_length.ensures c.split_at.ensures.prefix c.split_at.ensures.back
+    let more = turn-more c.args.depth c.args.rows.now c.loop-nibble.rest.now c.loop-nibble.nibble c.loop-nibble.kids.value c.loop-nibble.kids_usage c.loop-nibble.invariant c.split_at.result.0.now c.split_at.result.1.now c.run_length.result c.run_length.ensures c.split_at.ensures.front c.split_at.ensures.back
     c.loop-nibble-test.true (c.in_ok-name.name, c.in_ok-name.usage) c.in_ok-name.ensures in
     let kids = c.set.ensures.value ∙ ap (λ kids. set kids c.loop-nibble.nibble c.in_ok-name.name) c.deref_mut.ensures.value in
     subst (λ kids. IsGathered c.args.depth c.args.rows.now c.split_at.result.1.now (c.loop-nibble.nibble + 1) kids (c.loop-nibble.kids_usage + c.in_ok-name.usage)) (sym kids) more
