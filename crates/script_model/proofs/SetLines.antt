@@ -17,7 +17,7 @@ use Rattle.script_model.specs.Spellings.{hex_bytes, at_most, key_of, value_of, n
 -- a text that writes bytes writes at most so many
 pub record Within (most : ℕ) (bytes : List ℕ) : Type 0 where
   pub are_bytes : AreBytes bytes
-  pub size : length bytes ≤ most
+  pub within : length bytes ≤ most
 
 AreBytes-by_index : (bytes : List ℕ) → IsBytes bytes → AreBytes bytes
 AreBytes-by_index [] h = tt
@@ -52,7 +52,7 @@ at_most-within most (Some found) bytes e =
     (ap Some k.1, subst (λ (b : List ℕ). length b ≤ most) k.1 (leb-true (length found) most k.0))
 
 within : (most : ℕ) (text bytes : List ℕ) → at_most most (hex_bytes text) ≡ Some bytes → Within most bytes
-within most text bytes e = let w = at_most-within most (hex_bytes text) bytes e in record { are_bytes = hex_bytes-bytes text bytes w.0; length = w.1 }
+within most text bytes e = let w = at_most-within most (hex_bytes text) bytes e in record { are_bytes = hex_bytes-bytes text bytes w.0; within = w.1 }
 
 pair_within : (k v : Option (List ℕ)) (key value : List ℕ) → set_pair k v ≡ Some (set key value) → (k ≡ Some key) × (v ≡ Some value)
 pair_within None v key value e = absurd cc
@@ -72,7 +72,7 @@ words_pair (a ∷ b ∷ c ∷ []) key value e =
     let p = line_pair (bytes_eq a (codes "set")) (key_of b) (value_of c) key value e in
     let k = within longest_key b key p.0 in
     let v = within longest_value c value p.1 in
-    record { key = k.are_bytes; key_length = k.length; value = v.are_bytes; value_length = v.length }
+    record { key = k.are_bytes; key_length = k.within; value = v.are_bytes; value_length = v.within }
 words_pair (a ∷ b ∷ c ∷ d ∷ words) key value e = absurd cc
 
 not_comment : (b : Bool) (line : List ℕ) (o : Option Event) (key value : List ℕ) → cond b (comment line) o ≡ Some (set key value) → o ≡ Some (set key value)
