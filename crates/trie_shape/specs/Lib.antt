@@ -1,3 +1,4 @@
+pub mod Fitting
 pub mod Grown
 pub mod Runs
 pub mod RowsAt

@@ -1,8 +1,10 @@
 ghost use Rattle.std.specs.Prelude.{◌≡◌};
+ghost use Rattle.std.specs.Option.{option_map};
 ghost use Rattle.record_model.specs.Fits.{fits_at};
 ghost use Rattle.node_codec.specs.Views.{node_viewed};
+ghost use Rattle.trie_shape.specs.Fitting.{fitting_node};
 
-use node_codec::NodeView;
+use node_codec::{NodeView, read_node};
 
 /// The nibbles of the longest key.
 const LONGEST_PATH: u64 = 4228;
@@ -37,5 +39,16 @@ pub fn fits(view: &NodeView<'_>, depth: u64, after_extension: bool) -> bool
             };
             end < LONGEST_PATH && !after_extension
         }
+    }
+}
+
+/// The node that a text spells, with the usage that its record states, if such a node may stand
+/// there: below so many nibbles, as the child of an extension or not. It takes no memory.
+pub fn fitting_node(text: &[u8], depth: u64, after_extension: bool) -> Option<(NodeView<'_>, u64)>
+    ensures { option_map (λ found. (node_viewed found.0, found.1)) result ≡ fitting_node depth after_extension text.now }
+{
+    match read_node(text) {
+        Ok((node, usage)) if fits(&node, depth, after_extension) => Some((node, usage)),
+        _ => None,
     }
 }

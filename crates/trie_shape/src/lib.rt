@@ -16,7 +16,7 @@ pub use close_error::CloseError;
 pub use closed::Closed;
 pub use closing::close_branch;
 pub use costs::own_cost;
-pub use fitting::fits;
+pub use fitting::{fits, fitting_node};
 pub use rows::value_ref;
 pub use sub::Sub;
 
