@@ -19,7 +19,8 @@ use Rattle.byte_model.specs.Nibbles.{AreBytes}
 use Rattle.byte_model.specs.Node.{longest_value}
 use Rattle.trie_model.specs.State.{IsPair, longest_key}
 use Rattle.base_core.specs.declared.put_error.PutError.TheVariants.{Full}
-use Rattle.base_core.specs.PairMaps.{Entry, PairMap, IsKeptSorted, shown_entries, pair_map_of, laid, refusal, most_pairs}
+use Rattle.base_core.specs.PairMaps.{Entry, PairMap, IsKeptSorted, shown_entries, pair_map_of, laid, refusal}
+use Rattle.base_core.specs.Bounds.{most_pairs}
 
 abbrev Kept : Type 0
 Kept = List (Vec ℕ Global × List ℕ)

@@ -1,4 +1,5 @@
 pub mod Bounds
 pub mod Faults
+pub mod Failing
 pub mod PairMaps
 pub mod Reading

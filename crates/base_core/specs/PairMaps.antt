@@ -10,6 +10,7 @@ use Rattle.std.specs.declared.alloc.Global.{Global}
 use Rattle.std.specs.Coded.{Coded, code_by, coded×, coded_ℕ, coded_list}
 use Rattle.byte_model.specs.Node.{longest_value}
 use Rattle.trie_model.specs.State.{State, longest_key, IsPair}
+use Rattle.base_core.specs.Bounds.{most_pairs}
 use Rattle.base_core.specs.declared.put_error.PutError.{PutError}
 use Rattle.base_core.specs.declared.put_error.PutError.TheVariants.{KeyLong, ValueLong, Full}
 
@@ -24,10 +25,6 @@ pub record PairMap : Type 0 where
 abbrev pub pair_map_code : Coded PairMap
 pair_map_code =
     code_by (State × ℕ) (coded× (map.code (coded_list coded_ℕ) (coded_list coded_ℕ)) coded_ℕ) (λ h. (h.state, h.most)) (λ p. record { state = p.0; most = p.1 }) (λ _. refl)
-
--- the most pairs that a state may be asked to have
-abbrev pub most_pairs : ℕ
-most_pairs = 4194304
 
 -- Keys and values are byte strings within the limits, and there are no more than may be.
 pub record IsPairMap (held : PairMap) : Type 0 where

@@ -3,9 +3,11 @@
 #![tactic(auto)]
 
 mod borsh_error;
+mod failures;
 mod fault;
 mod hash;
 mod hashing;
+mod laws;
 mod limits;
 mod pairs;
 mod put_error;
@@ -14,10 +16,12 @@ mod text;
 mod writer;
 
 pub use borsh_error::BorshError;
+pub use failures::Failures;
 pub use fault::Fault;
-pub use hash::Digest;
+pub use hash::{DIGEST_BYTES, Digest};
 pub use hashing::digest;
-pub use limits::Limits;
+pub use laws::{constants_are_those_of_the_definitions, digests_are_ordered_as_bytes};
+pub use limits::{LONGEST_KEY, LONGEST_VALUE, Limits};
 pub use pairs::Pairs;
 pub use put_error::PutError;
 pub use reader::Reader;

@@ -1,3 +1,9 @@
+/// The most bytes that a key may have.
+pub const LONGEST_KEY: u64 = 2114;
+
+/// The most bytes that a value may have.
+pub const LONGEST_VALUE: u64 = 4194304;
+
 /// How much a run takes in. A call that takes limits asks that each is at least 1 and at most what
 /// `FULL` has.
 #[derive(Clone, Copy, Debug, PartialEq, Eq)]

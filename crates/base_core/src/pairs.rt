@@ -4,17 +4,15 @@ ghost use Rattle.std.specs.List.{slice_get};
 ghost use Rattle.std.specs.FinMap.{entries, get, empty};
 ghost use Rattle.byte_model.specs.Nibbles.{AreBytes};
 ghost use Rattle.base_core.specs.declared.put_error.PutError.TheVariants.{NoMemory};
-ghost use Rattle.base_core.specs.PairMaps.{IsPairMap, laid, refusal, shown_entries, most_pairs};
+ghost use Rattle.base_core.specs.Bounds.{most_pairs};
+ghost use Rattle.base_core.specs.PairMaps.{IsPairMap, laid, refusal, shown_entries};
 
+use crate::limits::{LONGEST_KEY, LONGEST_VALUE};
 use crate::put_error::PutError;
 use crate::text::Text;
 use std::alloc::{AllocError, Global};
 use std::collections::BTreeMap;
 use std::marker::Model;
-
-const LONGEST_KEY: u64 = 2114;
-
-const LONGEST_VALUE: u64 = 4194304;
 
 /// The pairs of a state: a map from keys to values, in the order of the keys' bytes. Each key and
 /// value is within the limits of a state.

@@ -4,7 +4,7 @@ ghost use Rattle.record_model.specs.Fields.{start_of, bytes_at, number_at, vecto
 ghost use Rattle.base_core.specs.Reading.{Reads, Answers};
 
 use crate::borsh_error::BorshError;
-use crate::hash::Digest;
+use crate::hash::{DIGEST_BYTES, Digest};
 use std::marker::Model;
 
 /// Reads a record field by field, as Borsh 1.0 spells it. It borrows the record, copies nothing but
@@ -97,10 +97,7 @@ impl<'a> Reader<'a> {
     pub fn digest(&mut self) -> Result<Digest, BorshError>
         ensures { Reads (λ digest. digest.0) result self.old self.new (bytes_at 32) }
     {
-        let bytes = self.take(32)?;
-        let mut digest = [0; 32];
-        digest.copy_from_slice(bytes);
-        Ok(Digest(digest))
+        Ok(Digest::from_slice(self.take(DIGEST_BYTES as u64)?))
     }
 
     /// The next `n` bytes.

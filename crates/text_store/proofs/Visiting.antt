@@ -2,7 +2,9 @@
 use Rattle.std.proofs.Common.{◌≡◌, ℕ, ◌+◌, List, [], ◌∷◌, ◌++◌, Option, None, Some, Result, refl, sym, ap, ◌∙◌, arith}
 use Rattle.std.specs.Prelude.{IfSome, IsSomeAnd}
 use Rattle.std.specs.FinSet.{insert}
-use Rattle.text_store.specs.Loading.{Digests, risen, Loaded}
+use Rattle.base_core.specs.Faults.{risen}
+use Rattle.base_core.proofs.Faults.{no_fall}
+use Rattle.text_store.specs.Loading.{Digests, Loaded}
 use Rattle.text_store.specs.Visiting.{HasLoaded, with_all, Remembers}
 
 with_all-end : (kept : Digests) (digests : List (List ℕ)) (digest : List ℕ) → with_all kept (digests ++ digest ∷ []) ≡ insert (with_all kept digests) digest
@@ -22,7 +24,7 @@ pub HasLoaded-more : {S : Type 0} (alike : S → S → Type 0) (loads faults : S
 HasLoaded-more alike loads faults kept old mid new count digest result onward before same loaded = record {
   same = onward old mid new before.same same;
   counted = loaded.counted ∙ ap (λ n. risen n 1) before.counted ∙ risen-more (loads old) count;
-  no_fall = let rose = loaded.failed.no_fall in let fell = before.no_fall in omega arith;
+  no_fall = let rose = no_fall _ _ _ loaded.failed in let fell = before.no_fall in omega arith;
 }
 
 -- the digests kept

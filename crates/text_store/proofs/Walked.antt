@@ -1,7 +1,7 @@
 -- A walk over digests with a load for each.
 use Rattle.std.proofs.Common.{◌≡◌, ℕ}
 use Rattle.trie_model.specs.Root.{Table}
-use Rattle.text_store.specs.Loading.{risen}
+use Rattle.base_core.specs.Faults.{risen}
 
 -- what so many loads leave
 pub record IsWalked {S : Type 0} (texts : S → Table) (load_count : S → ℕ) (alike : S → S → Type 0) (old new : S) (n : ℕ) : Type 0 where

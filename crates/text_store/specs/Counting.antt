@@ -1,9 +1,11 @@
 -- Texts with counts, and what the calls of a store of nodes make of them.
-use Rattle.std.specs.Prelude.{◌≡◌, ◌≢◌, ℕ, ◌+◌, ◌-◌, ◌==◌, nat_lt, List, IsSomeAnd, Result, Ok, Err, if◌then◌else◌, ◌⊎◌}
+use Rattle.std.specs.Prelude.{◌≡◌, ◌≢◌, ℕ, ◌+◌, ◌-◌, ◌==◌, nat_lt, List, IsSomeAnd, Result, Ok, Err, if◌then◌else◌, ◌⊎◌, ⊤}
 use Rattle.std.specs.FinMap.{get, contains_key, insert, remove}
 use Rattle.trie_model.specs.Root.{Table, zero_digest}
-use Rattle.base_core.specs.Faults.{Rose}
+use Rattle.base_core.specs.Faults.{Ended, done, refused, failed, short_of_memory}
 use Rattle.base_core.specs.declared.hash.Digest.{Digest}
+use Rattle.text_store.specs.declared.errors.ReserveError as reserve
+use Rattle.text_store.specs.declared.errors.ReserveError.TheVariants as reserve_error
 use Rattle.text_store.specs.declared.errors.AddError.{AddError}
 use Rattle.text_store.specs.declared.errors.AddError.TheVariants.{Clash, Fault}
 use Rattle.text_store.specs.Loading.{IsNamed}
@@ -38,7 +40,19 @@ abbrev pub Clashes : Table → List ℕ → List ℕ → Type 0
 Clashes texts digest text = (digest ≡ zero_digest) ⊎ IsSomeAnd (get texts digest) (λ other. other ≢ text)
 
 -- why a text was added or not
-abbrev pub AnswersAdd : Table → Digest → List ℕ → (faults faults_after : ℕ) → Result (Unit {0}) AddError → Type 0
-AnswersAdd texts digest text faults faults_after (Ok done) = ¬ Clashes texts digest.0 text
-AnswersAdd texts digest text faults faults_after (Err (Clash named)) = (named ≡ digest) × Clashes texts digest.0 text
-AnswersAdd texts digest text faults faults_after (Err Fault) = Rose faults faults_after
+abbrev pub AnswersAdd : Table → Digest → List ℕ → Result Unit AddError → Type 0
+AnswersAdd texts digest text (Ok added) = ¬ Clashes texts digest.0 text
+AnswersAdd texts digest text (Err (Clash named)) = (named ≡ digest) × Clashes texts digest.0 text
+AnswersAdd texts digest text (Err Fault) = ⊤
+
+-- how a call of `reserve` ended
+abbrev pub reserve_ended : Result Unit reserve.ReserveError → Ended
+reserve_ended (Ok taken) = done
+reserve_ended (Err reserve_error.Fault) = failed
+reserve_ended (Err reserve_error.NoMemory) = short_of_memory
+
+-- how a call of `add` ended
+abbrev pub add_ended : Result Unit AddError → Ended
+add_ended (Ok added) = done
+add_ended (Err (Clash named)) = refused
+add_ended (Err Fault) = failed

@@ -1,5 +1,5 @@
 -- What a store of texts holds, and what a load says and leaves.
-use Rattle.std.specs.Prelude.{◌≡◌, ℕ, ◌+◌, min, max, List, Option, None, Some, IfSome, IsSomeAnd, Result, Ok, Err}
+use Rattle.std.specs.Prelude.{◌≡◌, ℕ, List, Option, None, Some, IfSome, IsSomeAnd, Result, Ok, Err}
 use Rattle.std.specs.Borrow.{GName}
 use Rattle.std.specs.Ordering.{nat_cmp}
 use Rattle.std.specs.Cmp.Lexicographic.{slice_cmp}
@@ -7,7 +7,7 @@ use Rattle.std.specs.FinMap.{get}
 use Rattle.std.specs.FinSet.{FinSet, insert}
 use Rattle.sha2.specs.Sha256.{sha256}
 use Rattle.trie_model.specs.Root.{Table, zero_digest}
-use Rattle.base_core.specs.Faults.{most_faults, IsCounted}
+use Rattle.base_core.specs.Faults.{risen, IsCounted}
 use mathlib.Core.Option as maybe
 
 -- no reference, for a result from which nothing is written
@@ -22,10 +22,6 @@ Digests = FinSet (slice_cmp nat_cmp)
 pub record IsNamed (texts : Table) : Type 0 where
   pub own : (digest text : List ℕ) → get texts digest ≡ Some text → sha256 text ≡ digest
   pub nonzero : get texts zero_digest ≡ None
-
--- a count that is n higher, up to its end
-abbrev pub risen : ℕ → ℕ → ℕ
-risen count n = max count (min (count + n) most_faults)
 
 -- The digests kept as loaded: a load that answers a text adds its digest, and may stop telling them. Any other leaves them.
 abbrev pub Keeps : {A E : Type 0} → Option Digests → Option Digests → List ℕ → Result (Option A) E → Type 0

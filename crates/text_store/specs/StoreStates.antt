@@ -7,9 +7,9 @@ use Rattle.std.specs.FinMap.{FinMap, get, from_entries}
 use Rattle.std.specs.Coded.{Coded, code_by, coded×, coded_ℕ, coded_list}
 use Rattle.trie_model.specs.Root.{Table}
 use Rattle.base_core.specs.declared.hash.Digest.{Digest}
+use Rattle.base_core.specs.Faults.{risen}
+use Rattle.base_core.specs.Failing.{Failing, failing_code, after_call}
 use Rattle.text_store.specs.declared.held.Held.{Held}
-use Rattle.text_store.specs.Failing.{Failing, after_call}
-use Rattle.text_store.specs.Loading.{risen}
 use Rattle.text_store.specs.Counting.{IsStored}
 
 -- the count of each digest that has one
@@ -30,10 +30,6 @@ count_in state digest = unwrap_or (get state.counts digest) 0
 -- after a load
 abbrev pub after_load : StoreState → StoreState
 after_load state = record state { loads = risen state.loads 1; failing = after_call state.failing }
-
-abbrev pub failing_code : Coded Failing
-failing_code =
-    code_by (List ℕ × (ℕ × ℕ)) (coded× (coded_list coded_ℕ) (coded× coded_ℕ coded_ℕ)) (λ f. (f.fails, (f.calls, f.faults))) (λ p. record { fails = p.0; calls = p.1.0; faults = p.1.1 }) (λ _. refl)
 
 abbrev pub store_state_code : Coded StoreState
 store_state_code =

@@ -1,7 +1,8 @@
 -- What a call that makes several loads leaves of a store.
 use Rattle.std.specs.Prelude.{◌≡◌, ℕ, ◌≤◌, List, [], ◌∷◌, Option, IfSome, IsSomeAnd}
 use Rattle.std.specs.FinSet.{insert}
-use Rattle.text_store.specs.Loading.{Digests, risen}
+use Rattle.base_core.specs.Faults.{risen}
+use Rattle.text_store.specs.Loading.{Digests}
 
 -- The store is alike, and so many loads were counted.
 pub record HasLoaded {S : Type 0} (alike : S → S → Type 0) (loads faults : S → ℕ) (old new : S) (count : ℕ) : Type 0 where

@@ -3,7 +3,6 @@
 #![tactic(auto)]
 
 mod errors;
-mod failures;
 mod held;
 mod mem_nodes;
 mod nodes;

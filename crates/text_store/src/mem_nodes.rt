@@ -3,19 +3,18 @@ ghost use Rattle.std.specs.Option.{option_copied};
 ghost use Rattle.std.specs.Borrow.{sem, follows_so};
 ghost use Rattle.std.specs.FinMap.{get, len, empty};
 ghost use Rattle.sha2.specs.Sha256.{sha256};
-ghost use Rattle.base_core.specs.Faults.{Rose, IsCounted};
+ghost use Rattle.base_core.specs.Faults.{IsCounted, faults_after};
 ghost use Rattle.text_store.specs.Loading.{IsNamed, Loaded, NO_NAME};
-ghost use Rattle.text_store.specs.Counting.{IsStored, IsUnchanged, Adds, Releases, AnswersAdd};
-ghost use Rattle.text_store.specs.Failing.{fails_next, after_call};
+ghost use Rattle.text_store.specs.Counting.{IsStored, IsUnchanged, Adds, Releases, AnswersAdd, reserve_ended, add_ended};
+ghost use Rattle.base_core.specs.Failing.{fails_next, after_call};
 ghost use Rattle.text_store.specs.StoreStates.{count_in, after_load};
 ghost use Rattle.text_store.specs.contracts.mem_nodes.MemNodes.{the_row};
 
 use crate::errors::{AddError, ReserveError};
-use crate::failures::Failures;
 use crate::held::Held;
 use crate::nodes::Nodes;
 use crate::texts::Texts;
-use base_core::{Digest, Fault, Text};
+use base_core::{Digest, Failures, Fault, Text};
 use std::alloc::{AllocError, Global};
 use std::collections::HashMap;
 use std::marker::Model;
@@ -124,8 +123,7 @@ impl Nodes for MemNodes {
         ensures unchanged { IsUnchanged self.old.texts self.new.texts (count_in self.old) (count_in self.new) }
         ensures stored { IsStored self.old.texts (count_in self.old) }
         ensures loads { self.new.loads ≡ self.old.loads }
-        ensures no_fall { self.old.failing.faults ≤ self.new.failing.faults }
-        ensures rose { result ≡ Err ReserveError.Fault → Rose self.old.failing.faults self.new.failing.faults }
+        ensures counted { self.new.failing.faults ≡ faults_after (reserve_ended result) self.old.failing.faults }
         ensures fails { (result ≡ Err ReserveError.Fault) ↔ IsTrue (fails_next self.old.failing) }
         ensures after { self.new.failing ≡ after_call self.old.failing }
     {
@@ -145,11 +143,11 @@ impl Nodes for MemNodes {
         requires fits { count_in self.old d.now.0 + times < 2 ^ 64 }
         ensures ok { OnOk result (Adds self.old.texts self.new.texts (count_in self.old) (count_in self.new) d.now.0 text times) }
         ensures err { OnErr result (IsUnchanged self.old.texts self.new.texts (count_in self.old) (count_in self.new)) }
-        ensures answer { AnswersAdd self.old.texts d.now text self.old.failing.faults self.new.failing.faults result }
+        ensures answer { AnswersAdd self.old.texts d.now text result }
         ensures room { self.old.spare ≤ self.new.spare + 1 }
         ensures stored { IsStored self.old.texts (count_in self.old) }
         ensures loads { self.new.loads ≡ self.old.loads }
-        ensures no_fall { self.old.failing.faults ≤ self.new.failing.faults }
+        ensures counted { self.new.failing.faults ≡ faults_after (add_ended result) self.old.failing.faults }
         ensures fails { (result ≡ Err AddError.Fault) ↔ IsTrue (fails_next self.old.failing) }
         ensures after { self.new.failing ≡ after_call self.old.failing }
     {

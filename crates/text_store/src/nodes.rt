@@ -1,8 +1,8 @@
 ghost use Rattle.std.specs.Prelude.{◌≡◌, ℕ, ◌+◌, ◌^◌, ◌<◌, ◌≤◌, List, OnOk, OnErr, Err, IfNone};
 ghost use Rattle.std.specs.FinMap.{get, len};
 ghost use Rattle.sha2.specs.Sha256.{sha256};
-ghost use Rattle.base_core.specs.Faults.{Rose, IsCounted};
-ghost use Rattle.text_store.specs.Counting.{IsStored, IsUnchanged, Adds, Releases, AnswersAdd};
+ghost use Rattle.base_core.specs.Faults.{IsCounted, faults_after};
+ghost use Rattle.text_store.specs.Counting.{IsStored, IsUnchanged, Adds, Releases, AnswersAdd, reserve_ended, add_ended};
 
 use crate::errors::{AddError, ReserveError};
 use crate::texts::Texts;
@@ -23,8 +23,7 @@ pub trait Nodes: Texts {
         ensures unchanged { IsUnchanged (Self.texts self.old) (Self.texts self.new) (count_of self.old) (count_of self.new) }
         ensures stored { IsStored (Self.texts self.old) (count_of self.old) }
         ensures loads { Self.load_count self.new ≡ Self.load_count self.old }
-        ensures no_fall { Self.faults self.old ≤ Self.faults self.new }
-        ensures rose { result ≡ Err ReserveError.Fault → Rose (Self.faults self.old) (Self.faults self.new) };
+        ensures counted { Self.faults self.new ≡ faults_after (reserve_ended result) (Self.faults self.old) };
 
     /// Raises the count of a text by `times`. With 0 it only compares the text with the one that is
     /// held. It takes no memory, since there is room.
@@ -35,11 +34,11 @@ pub trait Nodes: Texts {
         requires fits { count_of self.old d.now.0 + times < 2 ^ 64 }
         ensures ok { OnOk result (Adds (Self.texts self.old) (Self.texts self.new) (count_of self.old) (count_of self.new) d.now.0 text times) }
         ensures err { OnErr result (IsUnchanged (Self.texts self.old) (Self.texts self.new) (count_of self.old) (count_of self.new)) }
-        ensures answer { AnswersAdd (Self.texts self.old) d.now text (Self.faults self.old) (Self.faults self.new) result }
+        ensures answer { AnswersAdd (Self.texts self.old) d.now text result }
         ensures room { spare self.old ≤ spare self.new + 1 }
         ensures stored { IsStored (Self.texts self.old) (count_of self.old) }
         ensures loads { Self.load_count self.new ≡ Self.load_count self.old }
-        ensures no_fall { Self.faults self.old ≤ Self.faults self.new };
+        ensures counted { Self.faults self.new ≡ faults_after (add_ended result) (Self.faults self.old) };
 
     /// Lowers the count of a text by `times`. At 0 the text is gone. It takes no memory.
     fn release(&mut self, d: &Digest, times: u64) -> Result<(), Fault>

@@ -1,5 +1,5 @@
 ghost use Rattle.std.specs.Prelude.{◌≡◌, ◌≤◌, OnOk, length};
-ghost use Rattle.text_store.specs.Loading.{risen};
+ghost use Rattle.base_core.specs.Faults.{risen};
 
 use super::*;
 use base_core::{Digest, Fault, Text, digest};

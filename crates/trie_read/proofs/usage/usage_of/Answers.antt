@@ -2,6 +2,7 @@ use Rattle.std.proofs.Common.{Ok, Err, sym, ap, ◌∙◌}
 use Rattle.std.specs.Option.{option_copied}
 use Rattle.visit_model.specs.Visits as visits
 use Rattle.visit_model.specs.Visits.{Visits, top_visits}
+use Rattle.base_core.proofs.Faults.{Rose-risen}
 use Rattle.trie_read.specs.declared.errors.ReadError.TheVariants.{Missing, Bad}
 use Rattle.trie_read.proofs.Stores.{visited-some, loaded-one}
 use Rattle.trie_read.proofs.Topmost.{zero-visits, zero-usage, missing-visits, bad-visits, node-visits, node-usage, usage-state, leaves_none, leaves_node, leaves_refused, top_visits-some}
@@ -27,7 +28,7 @@ returns-in-Err-clause-after g c =
       count = 1;
       within = top_visits-some (g.T.Texts.texts c.args.store.now) c.args.root.now.0 c.if-eq.ensures;
       loaded = loaded-one g.T.Texts.alike g.T.Texts.load_count g.T.Texts.faults g.T.Texts.kept c.args.store.now c.load.follows.lender-at-none c.args.root.now.0 c.load.result g.met.T.Texts.alike_itself g.met.T.Texts.alike_onward left.0 left.1;
-      rose = rw c.in-Err.is at left.1.failed.rose;
+      rose = Rose-risen _ _ (rw c.in-Err.is at left.1.failed.rose);
     }
 
 pub returns-in-Ok-None-clause-after : goal.returns-in-Ok-None-clause-after

@@ -11,11 +11,11 @@ returns-in-Some c =
     let is = loaded-state _ _ _ _ c.self.view_is (search rules) c.call.ensures.after in
     let fails = same_failing _ _ c.self.view_is c.in_ok-call.ensures.fails in
     let value = ap (λ text. Some text) c.as_slice.ensures ∙ ap (option_map (λ h. h.text)) c.in-Some.ensures.value ∙ sym (get-seen (λ h. h.text) _ c.args.d.now.0) ∙ ap (λ s. get s.texts c.args.d.now.0) c.self.view_is in
-    ((refl, λ _. tt, loaded c.args.self.now _ c.args.d.now.0 (Ok (Some c.as_slice.result)) is fails.0), record { after = tt; value = value; named = subst (λ s. IsNamed s.texts) c.self.view_is c.self.invariant.named; fails = fails })
+    ((refl, λ _. tt, loaded c.args.self.now _ c.args.d.now.0 (Ok (Some c.as_slice.result)) is fails), record { after = tt; value = value; named = subst (λ s. IsNamed s.texts) c.self.view_is c.self.invariant.named; fails = fails })
 
 pub returns-in-None : goal.returns-in-None
 returns-in-None c =
     let is = loaded-state _ _ _ _ c.self.view_is (search rules) c.call.ensures.after in
     let fails = same_failing _ _ c.self.view_is c.in_ok-call.ensures.fails in
     let value = ap (option_map (λ h. h.text)) c.in-None.ensures.value ∙ sym (get-seen (λ h. h.text) _ c.args.d.now.0) ∙ ap (λ s. get s.texts c.args.d.now.0) c.self.view_is in
-    ((refl, λ _. tt, loaded c.args.self.now _ c.args.d.now.0 (Ok None) is fails.0), record { after = tt; value = value; named = subst (λ s. IsNamed s.texts) c.self.view_is c.self.invariant.named; fails = fails })
+    ((refl, λ _. tt, loaded c.args.self.now _ c.args.d.now.0 (Ok None) is fails), record { after = tt; value = value; named = subst (λ s. IsNamed s.texts) c.self.view_is c.self.invariant.named; fails = fails })

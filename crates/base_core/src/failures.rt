@@ -1,29 +1,31 @@
 ghost use Rattle.std.specs.Prelude.{◌≡◌, IfOk, IsErr, IsTrue, ◌↔◌};
-ghost use Rattle.text_store.specs.Failing.{fails_next, after_call};
+ghost use Rattle.base_core.specs.Failing.{fails_next, after_call};
 
-use base_core::Fault;
+use crate::fault::Fault;
 use std::alloc::{AllocError, Global};
 use std::marker::Model;
 
 /// Which calls of an object in memory fail. Calls are numbered from 1.
 #[derive(Debug, Drop)]
-pub(crate) struct Failures {
+pub struct Failures {
     fails: Vec<u64>,
     calls: u64,
     faults: u64,
 }
 
 impl Model for Failures {
-    ghost use Rattle.text_store.specs.Failing.{Failing};
+    ghost use Rattle.base_core.specs.Failing.{Failing, failing_code};
 
     ghost Value = { Failing };
+
+    ghost coded = { failing_code };
 
     ghost view = { λ f. record { fails = f.fails.items; calls = f.calls; faults = f.faults } };
 }
 
 impl Failures {
     /// No call yet. Those whose numbers are in `fails` will fail.
-    pub(crate) fn new(alloc: Global, fails: &[u64]) -> Result<Failures, AllocError>
+    pub fn new(alloc: Global, fails: &[u64]) -> Result<Failures, AllocError>
         ensures { IfOk result (λ f. f ≡ record { fails = fails.now; calls = 0; faults = 0 }) }
     {
         Ok(Failures {
@@ -34,7 +36,7 @@ impl Failures {
     }
 
     /// Numbers a call, and fails where its number is on the list.
-    pub(crate) fn call(&mut self) -> Result<(), Fault>
+    pub fn call(&mut self) -> Result<(), Fault>
         ensures fails { IsErr result ↔ IsTrue (fails_next self.old) }
         ensures after { self.new ≡ after_call self.old }
     {
