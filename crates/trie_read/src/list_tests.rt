@@ -1,5 +1,5 @@
 ghost use Rattle.std.specs.Prelude.{◌≤◌};
-ghost use Rattle.base_core.specs.PairMaps.{most_pairs};
+ghost use Rattle.base_core.specs.Bounds.{most_pairs};
 
 use super::*;
 use base_core::{Digest, Pairs, digest};

@@ -6,7 +6,7 @@ ghost use Rattle.trie_model.specs.Root.{Holds};
 ghost use Rattle.trie_model.specs.State.{State, IsState};
 ghost use Rattle.visit_model.specs.Bounds.{reaches};
 ghost use Rattle.visit_model.specs.Visits.{listing_visits};
-ghost use Rattle.base_core.specs.PairMaps.{most_pairs};
+ghost use Rattle.base_core.specs.Bounds.{most_pairs};
 ghost use Rattle.trie_read.specs.Listings.{AnswersListing, AnswersPair, Collects, AnswersPairs, LeavesListed, LeftByPlace, as_listed};
 
 use crate::errors::{ListError, ReadError};
