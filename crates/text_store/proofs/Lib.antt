@@ -4,4 +4,4 @@ pub mod Stored
 pub mod Tables
 pub mod StoreStates
 pub mod Changes
-pub mod Visiting
+pub mod Leaves

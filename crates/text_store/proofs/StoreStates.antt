@@ -5,7 +5,7 @@ use Rattle.std.specs.FinMap.{get}
 use Rattle.base_core.specs.Faults.{IsCounted, risen}
 use Rattle.text_store.specs.Loading.{Loaded, Keeps}
 use Rattle.base_core.specs.Failing.{Failing, fails_next, after_call}
-use Rattle.text_store.specs.StoreStates.{StoreState, count_in, after_load}
+use Rattle.text_store.specs.StoreStates.{StoreState, count_in, mem_store, after_load}
 use Rattle.base_core.proofs.Faults.{IsCounted-call}
 use Rattle.text_store.specs.Counting.{IsUnchanged, Adds, Releases, Clashes}
 use Rattle.trie_model.specs.Root.{Table, zero_digest}
@@ -20,12 +20,11 @@ keeps-nothing digest (Ok (Some x)) = tt
 keeps-nothing digest (Ok None) = refl
 keeps-nothing digest (Err e) = refl
 
-pub loaded : {A E : Type 0} (old new : StoreState) (digest : List ℕ) (result : Result (Option A) E) → new ≡ after_load old → (IsErr result ↔ IsTrue (fails_next old.failing))
-    → ((old.texts ≡ new.texts) × (old.counts ≡ new.counts)) × Loaded old.loads new.loads old.failing.faults new.failing.faults None None digest result × (new ≡ after_load old)
+pub loaded : {A E : Type 0} (old new : StoreState) (digest : List ℕ) (result : Result (Option A) E) → new ≡ after_load old → (IsErr result ↔ IsTrue (fails_next old.failing)) → Loaded mem_store old new digest result × (new ≡ after_load old)
 loaded old new digest result e h = (
-  (ap (λ s. s.texts) (sym e), ap (λ s. s.counts) (sym e)),
   record {
-    counted = ap (λ s. s.loads) e;
+    same = (ap (λ s. s.texts) (sym e), ap (λ s. s.counts) (sym e));
+    loaded = ap (λ s. s.loads) e;
     failed = subst (λ s. IsCounted old.failing.faults s.failing.faults result) (sym e) (IsCounted-call old.failing result h);
     remembered = keeps-nothing digest result;
   },

@@ -1,4 +1,5 @@
+pub mod Store
 pub mod Loading
+pub mod Leaves
 pub mod Counting
 pub mod StoreStates
-pub mod Visiting

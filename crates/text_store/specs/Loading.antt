@@ -1,22 +1,17 @@
 -- What a store of texts holds, and what a load says and leaves.
 use Rattle.std.specs.Prelude.{◌≡◌, ℕ, List, Option, None, Some, IfSome, IsSomeAnd, Result, Ok, Err}
 use Rattle.std.specs.Borrow.{GName}
-use Rattle.std.specs.Ordering.{nat_cmp}
-use Rattle.std.specs.Cmp.Lexicographic.{slice_cmp}
 use Rattle.std.specs.FinMap.{get}
-use Rattle.std.specs.FinSet.{FinSet, insert}
+use Rattle.std.specs.FinSet.{insert}
 use Rattle.sha2.specs.Sha256.{sha256}
 use Rattle.trie_model.specs.Root.{Table, zero_digest}
 use Rattle.base_core.specs.Faults.{risen, IsCounted}
+use Rattle.text_store.specs.Store.{Digests, Store}
 use mathlib.Core.Option as maybe
 
 -- no reference, for a result from which nothing is written
 abbrev pub NO_NAME : maybe.Option GName
 NO_NAME = maybe.none
-
--- a set of digests
-abbrev pub Digests : Type 0
-Digests = FinSet (slice_cmp nat_cmp)
 
 -- Each text stands under its own SHA-256, and none under the zero digest.
 pub record IsNamed (texts : Table) : Type 0 where
@@ -29,8 +24,9 @@ Keeps before after digest (Ok (Some text)) = IfSome after (λ now. IsSomeAnd bef
 Keeps before after digest (Ok None) = after ≡ before
 Keeps before after digest (Err fault) = after ≡ before
 
--- What a load of a digest leaves of the counts and of the digests kept: it is counted, also where it answers a fault.
-pub record Loaded {A E : Type 0} (loads loads_after faults faults_after : ℕ) (kept kept_after : Option Digests) (digest : List ℕ) (result : Result (Option A) E) : Type 0 where
-  pub counted : loads_after ≡ risen loads 1
-  pub failed : IsCounted faults faults_after result
-  pub remembered : Keeps kept kept_after digest result
+-- What a load of a digest leaves of the store: it is alike, the load is counted, also where it answers a fault, and so is the fault.
+pub record Loaded {S A E : Type 0} (store : Store S) (old new : S) (digest : List ℕ) (result : Result (Option A) E) : Type 0 where
+  pub same : store.alike old new
+  pub loaded : store.loads new ≡ risen (store.loads old) 1
+  pub failed : IsCounted (store.faults old) (store.faults new) result
+  pub remembered : Keeps (store.kept old) (store.kept new) digest result

@@ -1,5 +1,5 @@
 -- A store of nodes in memory.
-use Rattle.std.specs.Prelude.{ℕ, List, map, unwrap_or, refl}
+use Rattle.std.specs.Prelude.{◌≡◌, ℕ, List, map, None, unwrap_or, refl}
 use Rattle.std.specs.Ordering.{nat_cmp}
 use Rattle.std.specs.Cmp.Lexicographic.{slice_cmp}
 use Rattle.std.specs.FinMap as map
@@ -10,6 +10,7 @@ use Rattle.base_core.specs.declared.hash.Digest.{Digest}
 use Rattle.base_core.specs.Faults.{risen}
 use Rattle.base_core.specs.Failing.{Failing, failing_code, after_call}
 use Rattle.text_store.specs.declared.held.Held.{Held}
+use Rattle.text_store.specs.Store.{Store}
 use Rattle.text_store.specs.Counting.{IsStored}
 
 -- the count of each digest that has one
@@ -26,6 +27,16 @@ pub record StoreState : Type 0 where
 
 abbrev pub count_in : StoreState → List ℕ → ℕ
 count_in state digest = unwrap_or (get state.counts digest) 0
+
+-- Two such stores are alike where they have the same texts and counts. The digests loaded are not kept.
+abbrev pub mem_store : Store StoreState
+mem_store = record {
+  texts = λ state. state.texts;
+  loads = λ state. state.loads;
+  faults = λ state. state.failing.faults;
+  kept = λ _. None;
+  alike = λ a b. (a.texts ≡ b.texts) × (a.counts ≡ b.counts);
+}
 
 -- after a load
 abbrev pub after_load : StoreState → StoreState

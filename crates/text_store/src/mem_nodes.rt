@@ -7,7 +7,7 @@ ghost use Rattle.base_core.specs.Faults.{IsCounted, faults_after};
 ghost use Rattle.text_store.specs.Loading.{IsNamed, Loaded, NO_NAME};
 ghost use Rattle.text_store.specs.Counting.{IsStored, IsUnchanged, Adds, Releases, AnswersAdd, reserve_ended, add_ended};
 ghost use Rattle.base_core.specs.Failing.{fails_next, after_call};
-ghost use Rattle.text_store.specs.StoreStates.{count_in, after_load};
+ghost use Rattle.text_store.specs.StoreStates.{count_in, mem_store, after_load};
 ghost use Rattle.text_store.specs.contracts.mem_nodes.MemNodes.{the_row};
 
 use crate::errors::{AddError, ReserveError};
@@ -65,18 +65,10 @@ impl MemNodes {
 }
 
 impl Texts for MemNodes {
-    ghost use Rattle.std.specs.Prelude.{None, refl};
+    ghost use Rattle.std.specs.Prelude.{refl};
     ghost use Rattle.std.proofs.Common.{◌∙◌};
 
-    ghost texts = { λ store. store.texts };
-
-    ghost load_count = { λ store. store.loads };
-
-    ghost faults = { λ store. store.failing.faults };
-
-    ghost kept = { λ _. None };
-
-    ghost alike = { λ a b. (a.texts ≡ b.texts) × (a.counts ≡ b.counts) };
+    ghost store = { mem_store };
 
     ghost load_leaves = { λ old new. new ≡ after_load old };
 
@@ -87,8 +79,7 @@ impl Texts for MemNodes {
     ghost alike_texts = { λ a b alike. alike.0 };
 
     fn load(&mut self, d: &Digest) -> Result<Option<&[u8]>, Fault>
-        ensures* after { sem 𝓛 (follows_so the_row the_row self.entry.ghost_name NO_NAME (λ _ _. ⊤) (λ new. ((self.old.texts ≡ new.texts) × (self.old.counts ≡ new.counts))
-            × Loaded self.old.loads new.loads self.old.failing.faults new.failing.faults None None d.now.0 result × (new ≡ after_load self.old))) }
+        ensures* after { sem 𝓛 (follows_so the_row the_row self.entry.ghost_name NO_NAME (λ _ _. ⊤) (λ new. Loaded mem_store self.old new d.now.0 result × (new ≡ after_load self.old))) }
         ensures value { IfOk result (λ found. option_copied found ≡ get self.old.texts d.now.0) }
         ensures named { IsNamed self.old.texts }
         ensures fails { IsErr result ↔ IsTrue (fails_next self.old.failing) }

@@ -20,45 +20,45 @@ pub trait Nodes: Texts {
     /// Takes room for `n` further texts.
     fn reserve(&mut self, n: u64) -> Result<(), ReserveError>
         ensures room { OnOk result (n ≤ spare self.new) }
-        ensures unchanged { IsUnchanged (Self.texts self.old) (Self.texts self.new) (count_of self.old) (count_of self.new) }
-        ensures stored { IsStored (Self.texts self.old) (count_of self.old) }
-        ensures loads { Self.load_count self.new ≡ Self.load_count self.old }
-        ensures counted { Self.faults self.new ≡ faults_after (reserve_ended result) (Self.faults self.old) };
+        ensures unchanged { IsUnchanged (Self.store.texts self.old) (Self.store.texts self.new) (count_of self.old) (count_of self.new) }
+        ensures stored { IsStored (Self.store.texts self.old) (count_of self.old) }
+        ensures loads { Self.store.loads self.new ≡ Self.store.loads self.old }
+        ensures counted { Self.store.faults self.new ≡ faults_after (reserve_ended result) (Self.store.faults self.old) };
 
     /// Raises the count of a text by `times`. With 0 it only compares the text with the one that is
     /// held. It takes no memory, since there is room.
     fn add(&mut self, d: &Digest, text: Text, times: u64) -> Result<(), AddError>
         requires digest { d.now.0 ≡ sha256 text }
         requires room { 1 ≤ spare self.old }
-        requires times { IfNone (get (Self.texts self.old) d.now.0) (1 ≤ times) }
+        requires times { IfNone (get (Self.store.texts self.old) d.now.0) (1 ≤ times) }
         requires fits { count_of self.old d.now.0 + times < 2 ^ 64 }
-        ensures ok { OnOk result (Adds (Self.texts self.old) (Self.texts self.new) (count_of self.old) (count_of self.new) d.now.0 text times) }
-        ensures err { OnErr result (IsUnchanged (Self.texts self.old) (Self.texts self.new) (count_of self.old) (count_of self.new)) }
-        ensures answer { AnswersAdd (Self.texts self.old) d.now text result }
+        ensures ok { OnOk result (Adds (Self.store.texts self.old) (Self.store.texts self.new) (count_of self.old) (count_of self.new) d.now.0 text times) }
+        ensures err { OnErr result (IsUnchanged (Self.store.texts self.old) (Self.store.texts self.new) (count_of self.old) (count_of self.new)) }
+        ensures answer { AnswersAdd (Self.store.texts self.old) d.now text result }
         ensures room { spare self.old ≤ spare self.new + 1 }
-        ensures stored { IsStored (Self.texts self.old) (count_of self.old) }
-        ensures loads { Self.load_count self.new ≡ Self.load_count self.old }
-        ensures counted { Self.faults self.new ≡ faults_after (add_ended result) (Self.faults self.old) };
+        ensures stored { IsStored (Self.store.texts self.old) (count_of self.old) }
+        ensures loads { Self.store.loads self.new ≡ Self.store.loads self.old }
+        ensures counted { Self.store.faults self.new ≡ faults_after (add_ended result) (Self.store.faults self.old) };
 
     /// Lowers the count of a text by `times`. At 0 the text is gone. It takes no memory.
     fn release(&mut self, d: &Digest, times: u64) -> Result<(), Fault>
         requires { times ≤ count_of self.old d.now.0 }
-        ensures ok { OnOk result (Releases (Self.texts self.old) (Self.texts self.new) (count_of self.old) (count_of self.new) d.now.0 times) }
-        ensures err { OnErr result (IsUnchanged (Self.texts self.old) (Self.texts self.new) (count_of self.old) (count_of self.new)) }
-        ensures stored { IsStored (Self.texts self.old) (count_of self.old) }
-        ensures loads { Self.load_count self.new ≡ Self.load_count self.old }
-        ensures counted { IsCounted (Self.faults self.old) (Self.faults self.new) result };
+        ensures ok { OnOk result (Releases (Self.store.texts self.old) (Self.store.texts self.new) (count_of self.old) (count_of self.new) d.now.0 times) }
+        ensures err { OnErr result (IsUnchanged (Self.store.texts self.old) (Self.store.texts self.new) (count_of self.old) (count_of self.new)) }
+        ensures stored { IsStored (Self.store.texts self.old) (count_of self.old) }
+        ensures loads { Self.store.loads self.new ≡ Self.store.loads self.old }
+        ensures counted { IsCounted (Self.store.faults self.old) (Self.store.faults self.new) result };
 
     /// How many texts are held. It takes no memory.
     fn distinct(&self) -> u64
-        ensures distinct { result ≡ len (Self.texts self.now) }
-        ensures stored { IsStored (Self.texts self.now) (count_of self.now) };
+        ensures distinct { result ≡ len (Self.store.texts self.now) }
+        ensures stored { IsStored (Self.store.texts self.now) (count_of self.now) };
 
     /// The count of the text held under a digest, 0 where none is held. It takes no memory.
     fn count(&self, d: &Digest) -> u64
         ensures count { result ≡ count_of self.now d.now.0 }
-        ensures stored { IsStored (Self.texts self.now) (count_of self.now) };
+        ensures stored { IsStored (Self.store.texts self.now) (count_of self.now) };
 
     /// Alike states have the same counts.
-    ghost alike_counts: { (a b : Self) → Self.alike a b → (digest : List ℕ) → count_of a digest ≡ count_of b digest };
+    ghost alike_counts: { (a b : Self) → Self.store.alike a b → (digest : List ℕ) → count_of a digest ≡ count_of b digest };
 }

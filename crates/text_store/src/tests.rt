@@ -8,9 +8,9 @@ use std::test::Fail;
 
 /// How many of these digests have a text, by a load for each.
 fn count_held<T: Texts>(store: &mut T, digests: &[Digest]) -> Result<usize, Fault>
-    ensures texts { T.texts store.new ≡ T.texts store.old }
-    ensures alike { T.alike store.old store.new }
-    ensures loads { OnOk result (T.load_count store.new ≡ risen (T.load_count store.old) (length digests.now)) }
+    ensures texts { T.store.texts store.new ≡ T.store.texts store.old }
+    ensures alike { T.store.alike store.old store.new }
+    ensures loads { OnOk result (T.store.loads store.new ≡ risen (T.store.loads store.old) (length digests.now)) }
 {
     let mut count = 0;
     for d in digests {
