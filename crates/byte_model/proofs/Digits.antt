@@ -1,9 +1,10 @@
 -- Keys as nibbles: the nibbles are as many and as large as they should be, and keep keys apart and in order.
-use Rattle.std.proofs.Common.{◌≡◌, ℕ, ◌*◌, ◌/◌, ◌%◌, ◌<◌, List, [], ◌∷◌, length, ◌⊎◌, inl, inr, refl, sym, ◌∙◌, ap, ap₂, arith, Ordering, Less, Equal, Greater, nat_cmp}
+use Rattle.std.proofs.Common.{◌≡◌, ℕ, ◌*◌, ◌/◌, ◌%◌, ◌<◌, List, [], ◌∷◌, ◌++◌, length, ◌⊎◌, inl, inr, refl, sym, ◌∙◌, ap, ap₂, arith, Ordering, Less, Equal, Greater, nat_cmp}
 use Rattle.std.specs.Ordering.{ordering_then}
 use Rattle.std.specs.Cmp.{nat_cmp_is}
 use Rattle.std.specs.Cmp.Lexicographic.{slice_cmp}
 use Rattle.byte_model.specs.Nibbles.{nibbles, AreNibbles, AreBytes}
+use Rattle.byte_model.proofs.Lists.{first_same, rest_same}
 
 pub length-nibbles : (key : List ℕ) → length (nibbles key) ≡ 2 * length key
 unfolding nibbles
@@ -15,13 +16,21 @@ unfolding nibbles
 AreNibbles-nibbles [] h = tt
 AreNibbles-nibbles (byte ∷ key) h = let small : byte < 256 = h.0 in (omega arith, (omega arith, AreNibbles-nibbles key h.1))
 
+-- ---- paths of nibbles
+
+pub AreNibbles-prefix : (prefix rest : List ℕ) → AreNibbles (prefix ++ rest) → AreNibbles prefix
+AreNibbles-prefix [] rest h = tt
+AreNibbles-prefix (x ∷ prefix) rest h = (h.0, AreNibbles-prefix prefix rest h.1)
+
+pub AreNibbles-rest : (prefix rest : List ℕ) → AreNibbles (prefix ++ rest) → AreNibbles rest
+AreNibbles-rest [] rest h = h
+AreNibbles-rest (x ∷ prefix) rest h = AreNibbles-rest prefix rest h.1
+
+pub AreNibbles-append : (prefix rest : List ℕ) → AreNibbles prefix → AreNibbles rest → AreNibbles (prefix ++ rest)
+AreNibbles-append [] rest h k = k
+AreNibbles-append (x ∷ prefix) rest h k = (h.0, AreNibbles-append prefix rest h.1 k)
+
 -- ---- injectivity
-
-first_same : {x y : ℕ} {xs ys : List ℕ} → x ∷ xs ≡ y ∷ ys → x ≡ y
-first_same e = cc
-
-rest_same : {x y : ℕ} {xs ys : List ℕ} → x ∷ xs ≡ y ∷ ys → xs ≡ ys
-rest_same e = cc
 
 pub nibbles-same : (a b : List ℕ) → nibbles a ≡ nibbles b → a ≡ b
 unfolding nibbles

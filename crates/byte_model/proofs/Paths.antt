@@ -3,6 +3,7 @@ use Rattle.std.proofs.Common.{◌≡◌, ℕ, ◌+◌, ◌*◌, ◌/◌, ◌%◌
 use Rattle.std.proofs.lemmas.Bool.Decides.{nat_tests}
 use Rattle.byte_model.specs.Nibbles.{AreNibbles}
 use Rattle.byte_model.specs.PackedPath.{two_to_a_byte, packed_behind, packed}
+use Rattle.byte_model.proofs.Lists.{first_same, rest_same}
 
 pub length-two_to_a_byte : (path : List ℕ) → length (two_to_a_byte path) ≡ length path / 2
 unfolding two_to_a_byte
@@ -42,12 +43,6 @@ length-packed leaf path =
         ap length (packed-odd leaf first rest even) ∙ omega arith
 
 -- ---- injectivity
-
-first_same : {x y : ℕ} {xs ys : List ℕ} → x ∷ xs ≡ y ∷ ys → x ≡ y
-first_same e = cc
-
-rest_same : {x y : ℕ} {xs ys : List ℕ} → x ∷ xs ≡ y ∷ ys → xs ≡ ys
-rest_same e = cc
 
 -- two paths of even lengths that have the same bytes
 pub two_to_a_byte-same : (p q : List ℕ) → AreNibbles p → AreNibbles q → length p % 2 ≡ 0 → length q % 2 ≡ 0 → two_to_a_byte p ≡ two_to_a_byte q → p ≡ q

@@ -7,14 +7,9 @@ use Rattle.byte_model.specs.Nibbles.{AreNibbles}
 use Rattle.byte_model.specs.PackedPath.{packed}
 use Rattle.byte_model.specs.Node.{ValueRef, Node, leaf, branch, extension, spelled_value, child_bit, child_digest, spelled_children, spelled}
 use Rattle.byte_model.specs.Laws.{IsDigest, NamesValue, FitsRecord, SameNode}
+use Rattle.byte_model.proofs.Lists.{first_same, rest_same}
 use Rattle.byte_model.proofs.Widths.{length-borsh_u16, length-borsh_u32, length-borsh_u64, borsh_u16-same, borsh_u32-same, borsh_u64-same}
 use Rattle.byte_model.proofs.Paths.{packed-same}
-
-first_same : {x y : ℕ} {xs ys : List ℕ} → x ∷ xs ≡ y ∷ ys → x ≡ y
-first_same e = cc
-
-rest_same : {x y : ℕ} {xs ys : List ℕ} → x ∷ xs ≡ y ∷ ys → xs ≡ ys
-rest_same e = cc
 
 -- two lists joined are told apart where the prefixes are as long
 pub split_prefix : (xs ys us vs : List ℕ) → length xs ≡ length ys → xs ++ us ≡ ys ++ vs → (xs ≡ ys) × (us ≡ vs)
@@ -55,7 +50,7 @@ vector_same p q e = (split_prefix (borsh_u32 (length p)) (borsh_u32 (length q)) 
 -- ---- children
 
 -- the bits of the children below n are less than 2 ^ n
-bits-lt : (kids : ℕ → Option (List ℕ)) (n : ℕ) → sum_below (child_bit kids) n < 2 ^ n
+pub bits-lt : (kids : ℕ → Option (List ℕ)) (n : ℕ) → sum_below (child_bit kids) n < 2 ^ n
 unfolding sum_below
 bits-lt kids zero = omega arith
 bits-lt kids (suc n) =

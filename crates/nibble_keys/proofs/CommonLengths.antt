@@ -3,7 +3,8 @@ use Rattle.std.proofs.Common.{ℕ, suc, ◌+◌, ◌*◌, ◌/◌, ◌%◌, ◌<
 use Rattle.std.proofs.lemmas.List.{take_more, drop_more}
 use Rattle.byte_model.specs.Nibbles.{nibbles}
 use Rattle.nibble_keys.specs.CommonLength.{IsCommonLength}
-use Rattle.nibble_keys.proofs.NibbleLists.{length-nibbles, take-nibbles, drop-nibbles, get_or-nibbles_high, get_or-nibbles_low}
+use Rattle.byte_model.proofs.Digits.{length-nibbles}
+use Rattle.nibble_keys.proofs.NibbleLists.{take-nibbles, drop-nibbles, get_or-nibbles_high, get_or-nibbles_low}
 
 -- the bytes agree below n, and at n already the high nibbles don't
 pub common-high : (xs ys : List ℕ) (n : ℕ) → IsCommonLength xs ys n → (n < length xs → n < length ys → get_or xs n 0 / 16 ≢ get_or ys n 0 / 16) → IsCommonLength (nibbles xs) (nibbles ys) (2 * n)

@@ -2,11 +2,7 @@
 use Rattle.std.proofs.Common.{ℕ, zero, suc, ◌+◌, ◌-◌, ◌*◌, ◌/◌, ◌%◌, ◌≡◌, List, [], ◌∷◌, length, take, drop, get_or, refl, ap, sym, ◌∙◌, arith, length-drop}
 use Rattle.std.proofs.lemmas.List.{get_or-drop}
 use Rattle.byte_model.specs.Nibbles.{nibbles}
-
-pub length-nibbles : (key : List ℕ) → length (nibbles key) ≡ 2 * length key
-unfolding nibbles
-length-nibbles [] = refl
-length-nibbles (byte ∷ key) = omega (arith, length-nibbles key)
+use Rattle.byte_model.proofs.Digits.{length-nibbles}
 
 twice-suc : (i : ℕ) → 2 * suc i ≡ suc (suc (2 * i))
 twice-suc i = omega arith

@@ -1,6 +1,6 @@
 -- What a loop over pairs of nibbles writes, and a packed path by whether its length is even.
-use Rattle.std.proofs.Common.{ℕ, zero, suc, ◌+◌, ◌*◌, ◌/◌, ◌%◌, ◌<◌, ◌≡◌, Bool, true, false, cond, List, [], ◌∷◌, ◌++◌, length, take, drop, get_or, refl, ap, arith, length-drop, inl, inr, ◌∙◌, ◌⊎◌, eqb}
-use Rattle.std.proofs.lemmas.Bool.{eq-eqb, ne_eqb}
+use Rattle.std.proofs.Common.{ℕ, zero, suc, ◌+◌, ◌*◌, ◌%◌, ◌<◌, ◌≡◌, Bool, true, cond, List, [], ◌∷◌, ◌++◌, length, take, drop, get_or, refl, ap, arith, eqb}
+use Rattle.std.proofs.lemmas.Bool.{eq-eqb}
 use Rattle.std.proofs.lemmas.List.Elements.{All-get_or, All-from_recursion}
 use Rattle.byte_model.specs.Nibbles.{AreNibbles}
 use Rattle.byte_model.specs.PackedPath.{packed, packed_behind, two_to_a_byte, leaf_flag, odd_flag}
@@ -20,32 +20,9 @@ two_to_a_byte-more (high ∷ low ∷ rest) (suc i) within =
     let after : suc (suc (2 * i)) + 1 ≡ suc (suc (2 * i + 1)) = omega arith in
     rw (next, here, after) (ap (λ bytes. (16 * high + low) ∷ bytes) (two_to_a_byte-more rest i inside))
 
-pub packed-even : (leaf : Bool) (path : List ℕ) → length path % 2 ≡ 0 → packed leaf path ≡ cond leaf leaf_flag 0 ∷ two_to_a_byte path
-unfolding packed packed_behind two_to_a_byte
-packed-even leaf [] even = refl
-packed-even leaf (first ∷ rest) even =
-    let test : eqb (length (first ∷ rest) % 2) 1 ≡ false = ne_eqb _ _ (λ odd. omega (arith, even, odd)) in
-    rw test refl
-
 pub packed-odd : (leaf : Bool) (path : List ℕ) → length path % 2 ≡ 1 → packed leaf path ≡ (cond leaf leaf_flag 0 + odd_flag + get_or path 0 0) ∷ two_to_a_byte (drop 1 path)
 unfolding packed packed_behind
 packed-odd leaf [] odd = absurd (omega (arith, odd))
 packed-odd leaf (first ∷ rest) odd =
     let test : eqb (length (first ∷ rest) % 2) 1 ≡ true = eq-eqb _ _ odd in
     rw test refl
-
-length-two_to_a_byte : (path : List ℕ) → length (two_to_a_byte path) ≡ length path / 2
-unfolding two_to_a_byte
-length-two_to_a_byte [] = refl
-length-two_to_a_byte (last ∷ []) = refl
-length-two_to_a_byte (high ∷ low ∷ rest) = omega (arith, length-two_to_a_byte rest)
-
-pub length-packed : (leaf : Bool) (path : List ℕ) → length (packed leaf path) ≡ 1 + length path / 2
-length-packed leaf path =
-    elim (parity path) [
-      | inl even ↦ ap length (packed-even leaf path even) ∙ omega (arith, length-two_to_a_byte path)
-      | inr odd ↦ ap length (packed-odd leaf path odd) ∙ omega (arith, length-two_to_a_byte (drop 1 path), length-drop 1 path)
-    ]
-  where
-    parity : (path : List ℕ) → (length path % 2 ≡ 0) ⊎ (length path % 2 ≡ 1)
-    parity path = grind arith

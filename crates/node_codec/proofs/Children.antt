@@ -1,24 +1,18 @@
 -- The children of a branch, one place after another.
-use Rattle.std.proofs.Common.{ℕ, zero, suc, ◌+◌, ◌*◌, ◌%◌, ◌^◌, ◌<◌, ◌≤◌, ◌≡◌, Bool, true, false, cond, List, ◌++◌, length, take, get_or, Option, None, Some, refl, ap, sym, ◌∙◌, arith, add-one, bit_or}
+use Rattle.std.proofs.Common.{ℕ, zero, suc, ◌+◌, ◌*◌, ◌%◌, ◌^◌, ◌<◌, ◌≤◌, ◌≡◌, Bool, true, false, cond, List, ◌++◌, length, take, get_or, Option, None, Some, refl, ap, sym, ◌∙◌, arith, bit_or}
 use Rattle.std.specs.Option.{is_some, option_map}
 use Rattle.std.specs.List.{count_by}
-use Rattle.std.proofs.Math.Nat.{two-pow-succ, mod-eq_of_lt}
+use Rattle.std.proofs.Math.Nat.{mod-eq_of_lt}
 use Rattle.std.proofs.Math.Pow.{pow-lt}
 use Rattle.std.proofs.lemmas.Nat.{or_comm, or_shifted}
 use Rattle.std.proofs.lemmas.List.{append-nil, take_all}
 use Rattle.std.proofs.lemmas.List.Sums.{count_by_more_yes, count_by_more_no}
 use Rattle.byte_model.specs.Below.{sum_below, joined_below}
 use Rattle.byte_model.specs.Node.{child_bit, child_digest, child_count}
+use Rattle.byte_model.proofs.Below.{sum_below-more, joined_below-more}
+use Rattle.byte_model.proofs.Spellings.{bits-lt}
 use Rattle.base_core.specs.declared.hash.Digest.{Digest}
 use Rattle.node_codec.specs.Meanings.{children_in}
-
-sum_below-more : (f : ℕ → ℕ) (n : ℕ) → sum_below f (n + 1) ≡ sum_below f n + f n
-unfolding sum_below
-sum_below-more f n = rw add-one refl
-
-joined_below-more : {X : Type 0} (f : ℕ → List X) (n : ℕ) → joined_below f (n + 1) ≡ joined_below f n ++ f n
-unfolding joined_below
-joined_below-more f n = rw add-one refl
 
 -- whether a child is there, as the record sees it
 is_some-children_in : (kids : List (Option Digest)) (i : ℕ) → is_some (children_in kids i) ≡ is_some (get_or kids i None)
@@ -27,15 +21,6 @@ is_some-children_in kids i = same (get_or kids i None)
     same : (child : Option Digest) → is_some (option_map (λ digest. digest.0) child) ≡ is_some child
     same None = refl
     same (Some digest) = refl
-
--- the bits below n sum to less than the next one
-child_bits-lt : (kids : ℕ → Option (List ℕ)) (n : ℕ) → sum_below (child_bit kids) n < 2 ^ n
-unfolding sum_below
-child_bits-lt kids zero = omega arith
-child_bits-lt kids (suc n) =
-    let twice = two-pow-succ n in
-    let below = child_bits-lt kids n in
-    elim (is_some (kids n)) as (λ there. sum_below (child_bit kids) n + cond there (2 ^ n) 0 < 2 ^ suc n) [ true ↦ omega arith | false ↦ omega arith ]
 
 -- a bit above all others is put by `|`
 bit_or-next : (bits i : ℕ) → i < 16 → bits < 2 ^ i → bit_or bits (1 * 2 ^ i % 65536) ≡ bits + 2 ^ i
@@ -47,7 +32,7 @@ bit_or-next bits i within below =
 -- one more bit, where a child is there and where none is
 pub bits-some : (kids : List (Option Digest)) (i bits : ℕ) → i < 16 → bits ≡ sum_below (child_bit (children_in kids)) i → is_some (get_or kids i None) ≡ true → bit_or bits (1 * 2 ^ i % 65536) ≡ sum_below (child_bit (children_in kids)) (i + 1)
 bits-some kids i bits within is there =
-    let below : bits < 2 ^ i = rw is (child_bits-lt (children_in kids) i) in
+    let below : bits < 2 ^ i = rw is (bits-lt (children_in kids) i) in
     let bit : child_bit (children_in kids) i ≡ 2 ^ i = ap (λ b. cond b (2 ^ i) 0) (is_some-children_in kids i ∙ there) in
     bit_or-next bits i within below ∙ omega (arith, sum_below-more (child_bit (children_in kids)) i, bit, is)
 

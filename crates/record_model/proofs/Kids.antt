@@ -1,5 +1,5 @@
 -- A bitmap and the digests behind it are the children of a branch, and those children's bitmap and digests are the same again.
-use Rattle.std.proofs.Common.{◌≡◌, ℕ, zero, suc, ◌+◌, ◌*◌, ◌%◌, ◌^◌, ◌<◌, ◌≤◌, ◌==◌, Bool, true, false, cond, if◌then◌else◌, List, ◌++◌, length, take, drop, Option, None, Some, IfSome, is_some, ◌⊎◌, inl, inr, refl, sym, ◌∙◌, ap, ap₂, subst, arith, pow-suc, mod-eq_of_lt, take-add, append-nil, length-append, length-take, length-drop}
+use Rattle.std.proofs.Common.{◌≡◌, ℕ, zero, suc, ◌+◌, ◌*◌, ◌%◌, ◌^◌, ◌<◌, ◌≤◌, ◌==◌, Bool, true, false, cond, if◌then◌else◌, List, ◌++◌, length, take, drop, Option, None, Some, IfSome, is_some, ◌⊎◌, inl, inr, refl, sym, ◌∙◌, ap, ap₂, subst, arith, mod-eq_of_lt, take-add, append-nil, length-append, length-take, length-drop}
 use Rattle.std.proofs.lemmas.Bool.{cases_lt, cases_eq, eq-eqb, ne_eqb, eqb-true, eqb-false}
 use Rattle.std.proofs.lemmas.List.{take_all}
 use Rattle.std.proofs.lemmas.Nat.{mod-pow-add, mod_below, pow_pos}
@@ -7,7 +7,7 @@ use Rattle.byte_model.specs.Below.{sum_below, joined_below}
 use Rattle.byte_model.specs.Borsh.{borsh_u16}
 use Rattle.byte_model.specs.Node.{child_bit, child_digest, spelled_children, child_count}
 use Rattle.byte_model.specs.Laws.{IsDigest}
-use Rattle.byte_model.proofs.Spellings.{spelled_children-same}
+use Rattle.byte_model.proofs.Spellings.{bits-lt, spelled_children-same}
 use Rattle.record_model.specs.Records.{bit, bits_below, child_in}
 use Rattle.record_model.proofs.Layouts.{FitsChildren}
 
@@ -39,17 +39,6 @@ top_bit a (suc zero) m n power two h k e = go a e
     go true e = (refl, omega arith)
     go false e = absurd (omega arith)
 top_bit a (suc (suc digit)) m n power two h k e = absurd (omega arith)
-
-bits-lt : (kids : ℕ → Option (List ℕ)) (n : ℕ) → sum_below (child_bit kids) n < 2 ^ n
-unfolding sum_below
-bits-lt kids zero = omega arith
-bits-lt kids (suc n) =
-    let further = bits-lt kids n in
-    let power : 2 ^ suc n ≡ 2 ^ n * 2 = pow-suc 2 n in
-    elim (is_some (kids n)) as (λ b. sum_below (child_bit kids) n + (if b then 2 ^ n else 0) < 2 ^ suc n) [
-      | true ↦ omega arith
-      | false ↦ omega arith
-    ]
 
 -- the bits of a sum are those that were added
 bits_told : (kids : ℕ → Option (List ℕ)) (bitmap n : ℕ) → bitmap % 2 ^ n ≡ sum_below (child_bit kids) n → (x : ℕ) → x < n → (bit bitmap x == 1) ≡ is_some (kids x)

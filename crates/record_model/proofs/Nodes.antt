@@ -36,7 +36,7 @@ layout_found bytes small = and_then (layout_taken (start_of bytes) small) (λ la
     }))
     (λ _. record { given = tt }))
 
-layout_only : (layout : Layout) (usage : ℕ) → FitsLayout layout → usage < 2 ^ 64 → layout_of (spelled_layout layout usage) ≡ Ok (layout, usage)
+pub layout_only : (layout : Layout) (usage : ℕ) → FitsLayout layout → usage < 2 ^ 64 → layout_of (spelled_layout layout usage) ≡ Ok (layout, usage)
 unfolding layout_of end_of
 layout_only layout usage fits lt =
     let again = layout_again layout usage 0 [] fits lt in

@@ -4,7 +4,7 @@ use Rattle.std.specs.List.{AllByRecursion, cons_option}
 use Rattle.std.proofs.lemmas.Bool.{cases_eq}
 use Rattle.std.proofs.lemmas.Bool.Decides.{nat_tests}
 use Rattle.byte_model.specs.Below.{sum_below}
-use Rattle.trie_model.proofs.Joined.{sum_below-agree}
+use Rattle.byte_model.proofs.Below.{sum_below-agree, sum_below-le, sum_below-zero, sum_below-add_mul}
 use Rattle.byte_model.specs.PackedPath.{packed}
 use Rattle.byte_model.specs.Node.{cost_of}
 use Rattle.byte_model.proofs.Paths.{length-packed}
@@ -44,26 +44,6 @@ added_once g c y (suc n) =
           let test : (n == y) ≡ false = grind (arith, nat_tests) in
           rw test (omega arith)
     ]
-
-sum_below-le : (f g : ℕ → ℕ) (n : ℕ) → ((x : ℕ) → f x ≤ g x) → sum_below f n ≤ sum_below g n
-unfolding sum_below
-sum_below-le f g zero h = omega arith
-sum_below-le f g (suc n) h =
-    let further = sum_below-le f g n h in
-    let last = h n in
-    omega arith
-
-sum_below-zero : (n : ℕ) → sum_below (λ x. 0) n ≡ 0
-unfolding sum_below
-sum_below-zero zero = refl
-sum_below-zero (suc n) = let further = sum_below-zero n in omega arith
-
-sum_below-add_mul : (a b : ℕ → ℕ) (m n : ℕ) → sum_below (λ x. a x + b x * m) n ≡ sum_below a n + sum_below b n * m
-unfolding sum_below
-sum_below-add_mul a b m zero = omega arith
-sum_below-add_mul a b m (suc n) =
-    let further = sum_below-add_mul a b m n in
-    omega arith
 
 -- ---- what rows weigh
 

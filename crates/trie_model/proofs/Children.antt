@@ -7,11 +7,12 @@ use Rattle.byte_model.specs.Node as node
 use Rattle.byte_model.specs.Node.{Node}
 use Rattle.trie_model.specs.State.{State, Row, rows_of}
 use Rattle.trie_model.specs.Tree.{Tree, nothing, leaf, branch, extension, rest_behind, below, tree_of}
+use Rattle.byte_model.proofs.Lists.{first_same, rest_same}
 use Rattle.trie_model.specs.Texts.{behind, places, node_of}
 use Rattle.trie_model.specs.Root.{subtree_at, places_of}
 use Rattle.trie_model.specs.Laws.{ChildrenArePlaces}
 use Rattle.trie_model.proofs.Members.{IsIn, in-map, in_map_from, in-joined_below, in_joined_below_from, contains_of_in, in_of_contains}
-use Rattle.trie_model.proofs.Rests.{below-nil, below-append, below-some, AllHavePrefix, common_prefix-all, none_cons, first_same, rest_same, rest_behind-prefix}
+use Rattle.trie_model.proofs.Rests.{below-nil, below-append, below-some, AllHavePrefix, common_prefix-all, none_cons, rest_behind-prefix}
 use Rattle.trie_model.proofs.Trees.{tree_of-nil, tree_of-one, tree_of-forks, tree_of-shares, by_cases}
 use Rattle.trie_model.proofs.Costs.{subtree_at-root, IfSome-weaker}
 

@@ -11,7 +11,7 @@ use Rattle.trie_model.specs.Tree.{Tree, nothing, leaf, branch, extension, below,
 use Rattle.trie_model.specs.Texts.{text, usage, top_cost, node_of, places, value_ref, name_of}
 use Rattle.trie_model.specs.Root.{subtree_at, text_at, places_of, texts_of, total}
 use Rattle.trie_model.specs.Laws.{children_usage, NamesChildren}
-use Rattle.trie_model.proofs.Joined.{sum_by-joined_below, sum_below-agree}
+use Rattle.byte_model.proofs.Below.{sum_by-joined_below, sum_below-agree}
 use Rattle.trie_model.proofs.Rests.{below-nil, below-append}
 use Rattle.trie_model.proofs.Trees.{tree_of-nil, tree_of-one, tree_of-forks, tree_of-shares, by_cases}
 use Rattle.trie_model.proofs.Places.{tree_texts, gathered, at_place, map-places}

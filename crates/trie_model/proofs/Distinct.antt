@@ -1,6 +1,7 @@
 -- Equal texts mean equal rows, where no two of the texts at hand share a digest.
 use Rattle.std.proofs.Common.{◌≡◌, ◌≢◌, ℕ, ◌<◌, List, [], ◌∷◌, ◌++◌, map, Option, None, Some, IfSome, option_map, ◌⊎◌, ◌↔◌, refl, sym, ◌∙◌, ap, ap₂, subst, inl, inr}
 use Rattle.std.specs.List.{AllByRecursion}
+use Rattle.std.proofs.lemmas.Option.{same_Some}
 use Rattle.sha2.specs.Sha256.{sha256}
 use Rattle.byte_model.specs.Node as node
 use Rattle.byte_model.specs.Node.{Node, ValueRef, spelled, IsShaped}
@@ -12,7 +13,7 @@ use Rattle.trie_model.specs.Texts.{text, usage, name_of, node_of, value_ref}
 use Rattle.trie_model.specs.Root.{root, root_of, texts_of, text_at, zero_digest, NoClash}
 use Rattle.trie_model.proofs.Members.{IsIn, all_of, in-map, in-joined_below, contains_of_in, in_of_contains, in-append_left, in-append_right}
 use Rattle.trie_model.proofs.Roots.{rows_of-same, root_text_occurs, root-some}
-use Rattle.trie_model.proofs.Joined.{joined_below-agree}
+use Rattle.byte_model.proofs.Below.{joined_below-agree}
 use Rattle.trie_model.proofs.Rests.{under, under-below, AllHavePrefix, common_prefix-all}
 use Rattle.trie_model.proofs.Trees.{tree_of-nil, tree_of-one, tree_of-forks, tree_of-shares, by_cases}
 use Rattle.trie_model.proofs.Places.{gathered, tree_texts}
@@ -85,9 +86,6 @@ kind_of (row ∷ next ∷ rows) = go (common_prefix row (next ∷ rows)) refl
 fits : (rows : List Row) → Sound rows → (tree : Tree) → tree_of rows ≡ tree → IfSome (node_of tree) (λ n. IsShaped n × FitsRecord n)
 fits rows s tree e = subst (λ t. IfSome (node_of t) (λ n. IsShaped n × FitsRecord n)) e (sound_nodes rows s.rising s.small s.short)
 
-some_same : (a b : List ℕ) → Some a ≡ Some b → a ≡ b
-some_same a b e = cc
-
 none_some : (a : List ℕ) → None ≡ Some a → ⊥
 none_some a e = cc
 
@@ -156,7 +154,7 @@ module _ (texts : List (List ℕ)) (apart : (a b : List ℕ) → IsIn texts a �
       go (inl p) (inr q) = absurd (none_some _ (sym (ap (λ rows. name_of (tree_of rows) (text (tree_of kids))) p ∙ name_of-none (text (tree_of kids))) ∙ e ∙ name_of-rows others q (text (tree_of others))))
       go (inr p) (inl q) = absurd (none_some _ (sym (ap (λ rows. name_of (tree_of rows) (text (tree_of others))) q ∙ name_of-none (text (tree_of others))) ∙ sym e ∙ name_of-rows kids p (text (tree_of kids))))
       go (inr p) (inr q) =
-          let digests = some_same _ _ (sym (name_of-rows kids p (text (tree_of kids))) ∙ e ∙ name_of-rows others q (text (tree_of others))) in
+          let digests = same_Some _ _ (sym (name_of-rows kids p (text (tree_of kids))) ∙ e ∙ name_of-rows others q (text (tree_of others))) in
           told others s s' k k' p q (apart _ _ (k.nodes _ (text_in kids p)) (k'.nodes _ (text_in others q)) digests)
 
   below_some : (rows : List Row) (prefix : List ℕ) → AllHavePrefix prefix rows → rows ≢ [] → below prefix rows ≢ []

@@ -9,7 +9,8 @@ use mathlib.Core.Path.{fun_ext}
 use Rattle.byte_model.specs.Below.{joined_below}
 use Rattle.byte_model.proofs.Digits.{nat_cmp-greater, nat_cmp-itself}
 use Rattle.trie_model.specs.State.{Row}
-use Rattle.trie_model.specs.Tree.{Tree, nothing, leaf, branch, extension, rest_behind, below, ends_here, common, common_prefix, tree_of}
+use Rattle.trie_model.specs.Tree.{branch, extension, rest_behind, below, ends_here, common, common_prefix, tree_of}
+use Rattle.trie_model.specs.Grown.{grown}
 use Rattle.trie_model.proofs.Rests.{same_nibble, under, below-append, below-under, below-rows_append, under-below, AllHavePrefix}
 use Rattle.trie_model.proofs.Trees.{tree_of-nil, tree_of-one, tree_of-forks, tree_of-shares}
 use Rattle.trie_model.proofs.Order.{Before, RisingRows}
@@ -17,23 +18,17 @@ use Rattle.trie_model.proofs.Pairs.{here}
 
 -- ---- a prefix before all paths
 
--- a tree with a prefix put before all its paths: a leaf's or an extension's path grows, and a branch becomes the child of an extension
-unfoldable pub grown : List ℕ → Tree → Tree
-grown [] tree = tree
-grown (x ∷ prefix) nothing = nothing
-grown (x ∷ prefix) (leaf path value) = leaf (x ∷ prefix ++ path) value
-grown (x ∷ prefix) (branch value kids) = extension (x ∷ prefix) (branch value kids)
-grown (x ∷ prefix) (extension path child) = extension (x ∷ prefix ++ path) child
-
 pub under-nil : (rows : List Row) → under [] rows ≡ rows
 under-nil [] = refl
 under-nil (row ∷ rows) = ap (λ (rs : List Row). row ∷ rs) (under-nil rows)
 
+-- two paths with a prefix put before them share the prefix and what they shared
 pub common-prefix : (prefix p q : List ℕ) → common (prefix ++ p) (prefix ++ q) ≡ prefix ++ common p q
 unfolding common
 common-prefix [] p q = refl
 common-prefix (x ∷ prefix) p q = rw (same_nibble x) (ap (λ (r : List ℕ). x ∷ r) (common-prefix prefix p q))
 
+-- and so do rows
 pub common_prefix-under : (prefix : List ℕ) (row : Row) (rows : List Row) → common_prefix (prefix ++ row.0, row.1) (under prefix rows) ≡ prefix ++ common_prefix row rows
 unfolding common_prefix
 common_prefix-under prefix row [] = refl
@@ -42,27 +37,29 @@ common_prefix-under prefix row (next ∷ rows) = ap (common (prefix ++ row.0)) (
 -- the trie of rows with a prefix put before each
 pub tree_of-under : (prefix : List ℕ) (rows : List Row) → tree_of (under prefix rows) ≡ grown prefix (tree_of rows)
 unfolding grown
-tree_of-under [] rows = ap tree_of (under-nil rows)
-tree_of-under (x ∷ prefix) [] = tree_of-nil ∙ sym (ap (grown (x ∷ prefix)) tree_of-nil)
-tree_of-under (x ∷ prefix) (row ∷ []) = tree_of-one (x ∷ prefix ++ row.0, row.1) ∙ sym (ap (grown (x ∷ prefix)) (tree_of-one row))
-tree_of-under (x ∷ prefix) (row ∷ next ∷ rows) = go (common_prefix row (next ∷ rows)) refl
+tree_of-under prefix [] = tree_of-nil ∙ ap (grown prefix) (sym tree_of-nil)
+tree_of-under prefix (row ∷ []) = tree_of-one (prefix ++ row.0, row.1) ∙ ap (grown prefix) (sym (tree_of-one row))
+tree_of-under prefix (row ∷ next ∷ rows) = go prefix (common_prefix row (next ∷ rows)) refl
   where
-    rs : List Row
-    rs = row ∷ next ∷ rows
+    all : List Row
+    all = row ∷ next ∷ rows
 
-    raised : common_prefix (x ∷ prefix ++ row.0, row.1) (under (x ∷ prefix) (next ∷ rows)) ≡ x ∷ prefix ++ common_prefix row (next ∷ rows)
-    raised = common_prefix-under (x ∷ prefix) row (next ∷ rows)
+    shared : (f : List ℕ) → common_prefix (f ++ row.0, row.1) (under f (next ∷ rows)) ≡ f ++ common_prefix row (next ∷ rows)
+    shared f = common_prefix-under f row (next ∷ rows)
 
-    go : (shared : List ℕ) → common_prefix row (next ∷ rows) ≡ shared → tree_of (under (x ∷ prefix) (row ∷ next ∷ rows)) ≡ grown (x ∷ prefix) (tree_of (row ∷ next ∷ rows))
-    go [] e =
-        tree_of-shares (x ∷ prefix ++ row.0, row.1) (x ∷ prefix ++ next.0, next.1) (under (x ∷ prefix) rows) x prefix (raised ∙ ap (λ (r : List ℕ). x ∷ prefix ++ r) e ∙ append-nil (x ∷ prefix))
-        ∙ ap (λ (r : List Row). extension (x ∷ prefix) (tree_of r)) (below-under (x ∷ prefix) rs)
-        ∙ ap (extension (x ∷ prefix)) (tree_of-forks row next rows e)
-        ∙ sym (ap (grown (x ∷ prefix)) (tree_of-forks row next rows e))
-    go (y ∷ more) e =
-        tree_of-shares (x ∷ prefix ++ row.0, row.1) (x ∷ prefix ++ next.0, next.1) (under (x ∷ prefix) rows) x (prefix ++ y ∷ more) (raised ∙ ap (λ (r : List ℕ). x ∷ prefix ++ r) e)
-        ∙ ap (λ (r : List Row). extension (x ∷ prefix ++ y ∷ more) (tree_of r)) (below-append (x ∷ prefix) (y ∷ more) (under (x ∷ prefix) rs) ∙ ap (below (y ∷ more)) (below-under (x ∷ prefix) rs))
-        ∙ sym (ap (grown (x ∷ prefix)) (tree_of-shares row next rows y more e))
+    go : (f c : List ℕ) → common_prefix row (next ∷ rows) ≡ c → tree_of (under f all) ≡ grown f (tree_of all)
+    go [] [] e = ap tree_of (under-nil all) ∙ tree_of-forks row next rows e ∙ ap (grown []) (sym (tree_of-forks row next rows e))
+    go (x ∷ f) [] e =
+        let long : common_prefix (x ∷ f ++ row.0, row.1) (under (x ∷ f) (next ∷ rows)) ≡ x ∷ f = shared (x ∷ f) ∙ ap (λ (c : List ℕ). x ∷ f ++ c) e ∙ append-nil (x ∷ f) in
+        tree_of-shares (x ∷ f ++ row.0, row.1) (x ∷ f ++ next.0, next.1) (under (x ∷ f) rows) x f long
+        ∙ ap (λ (rs : List Row). extension (x ∷ f) (tree_of rs)) (below-under (x ∷ f) all)
+        ∙ ap (extension (x ∷ f)) (tree_of-forks row next rows e)
+        ∙ ap (grown (x ∷ f)) (sym (tree_of-forks row next rows e))
+    go [] (y ∷ c) e = ap tree_of (under-nil all) ∙ tree_of-shares row next rows y c e ∙ ap (grown []) (sym (tree_of-shares row next rows y c e))
+    go (x ∷ f) (y ∷ c) e =
+        tree_of-shares (x ∷ f ++ row.0, row.1) (x ∷ f ++ next.0, next.1) (under (x ∷ f) rows) x (f ++ y ∷ c) (shared (x ∷ f) ∙ ap (λ (p : List ℕ). x ∷ f ++ p) e)
+        ∙ ap (λ (rs : List Row). extension (x ∷ f ++ y ∷ c) (tree_of rs)) (below-append (x ∷ f) (y ∷ c) (under (x ∷ f) all) ∙ ap (below (y ∷ c)) (below-under (x ∷ f) all))
+        ∙ ap (grown (x ∷ f)) (sym (tree_of-shares row next rows y c e))
 
 -- The trie of rows that all have a prefix is that of the rows below it, grown by it.
 pub tree_of-prefix : (prefix : List ℕ) (rows : List Row) → AllHavePrefix prefix rows → tree_of rows ≡ grown prefix (tree_of (below prefix rows))
@@ -150,24 +147,24 @@ unfolding common
 common-itself [] = refl
 common-itself (x ∷ p) = rw (same_nibble x) (ap (λ (r : List ℕ). x ∷ r) (common-itself p))
 
-slice_cmp-itself : (p : List ℕ) → slice_cmp nat_cmp p p ≡ Equal
+pub slice_cmp-itself : (p : List ℕ) → slice_cmp nat_cmp p p ≡ Equal
 slice_cmp-itself [] = refl
 slice_cmp-itself (x ∷ p) = ap (λ o. ordering_then o (slice_cmp nat_cmp p p)) (nat_cmp-itself x) ∙ slice_cmp-itself p
 
-not_after_before : (p q : List ℕ) → Before p q → NotAfter p q
+pub not_after_before : (p q : List ℕ) → Before p q → NotAfter p q
 not_after_before p q h e = different (sym h ∙ e)
   where
     different : Less ≡ Greater → ⊥
     different e = cc
 
-first_not_after : (x y : ℕ) (p q : List ℕ) → NotAfter (x ∷ p) (y ∷ q) → x ≤ y
+pub first_not_after : (x y : ℕ) (p q : List ℕ) → NotAfter (x ∷ p) (y ∷ q) → x ≤ y
 first_not_after x y p q h =
     elim (cases_lt y x) [
       | inl l ↦ absurd (h (ap (λ o. ordering_then o (slice_cmp nat_cmp p q)) (nat_cmp-greater x y l)))
       | inr le ↦ le
     ]
 
-rest_not_after : (x y : ℕ) (p q : List ℕ) → x ≡ y → NotAfter (x ∷ p) (y ∷ q) → NotAfter p q
+pub rest_not_after : (x y : ℕ) (p q : List ℕ) → x ≡ y → NotAfter (x ∷ p) (y ∷ q) → NotAfter p q
 rest_not_after x y p q same h e = h (ap (λ (z : ℕ). ordering_then (nat_cmp x z) (slice_cmp nat_cmp p q)) (sym same) ∙ ap (λ o. ordering_then o (slice_cmp nat_cmp p q)) (nat_cmp-itself x) ∙ e)
 
 -- a path between two others has the prefix that they share
@@ -198,17 +195,17 @@ common-between (x ∷ p) (y ∷ q) (z ∷ r) h k =
           rw (second, outer) refl
     ]
 
-not_after_itself : (p : List ℕ) → NotAfter p p
+pub not_after_itself : (p : List ℕ) → NotAfter p p
 not_after_itself p e = different (sym (slice_cmp-itself p) ∙ e)
   where
     different : Equal ≡ Greater → ⊥
     different e = cc
 
-all_last : (P : Row → Type 0) (row : Row) (rows : List Row) → AllByRecursion P (row ∷ rows) → P (last_row row rows)
+pub all_last : (P : Row → Type 0) (row : Row) (rows : List Row) → AllByRecursion P (row ∷ rows) → P (last_row row rows)
 all_last P row [] h = h.0
 all_last P row (next ∷ rows) h = all_last P next rows h.1
 
-not_after_last : (row : Row) (rows : List Row) → RisingRows (row ∷ rows) → NotAfter row.0 (last_row row rows).0
+pub not_after_last : (row : Row) (rows : List Row) → RisingRows (row ∷ rows) → NotAfter row.0 (last_row row rows).0
 not_after_last row [] h = not_after_itself row.0
 not_after_last row (next ∷ rows) h = not_after_before row.0 (last_row next rows).0 (all_last (λ later. Before row.0 later.0) next rows h.0)
 

@@ -1,5 +1,4 @@
 pub mod Worked
-pub mod Joined
 pub mod Members
 pub mod Rests
 pub mod Trees

@@ -97,15 +97,15 @@ abbrev pub RisingRows : List Row → Type 0
 RisingRows [] = Unit {0}
 RisingRows (row ∷ rows) = AllByRecursion (λ later. Before row.0 later.0) rows × RisingRows rows
 
-first_test : (a b : Bool) → T (a && b) → T a
+pub first_test : (a b : Bool) → T (a && b) → T a
 first_test true b h = tt
 first_test false b h = h
 
-second_test : (a b : Bool) → T (a && b) → T b
+pub second_test : (a b : Bool) → T (a && b) → T b
 second_test true b h = h
 second_test false b h = absurd h
 
-less_of_test : (o : Ordering) → T (is_lt o) → o ≡ Less
+pub less_of_test : (o : Ordering) → T (is_lt o) → o ≡ Less
 less_of_test Less h = refl
 less_of_test Equal h = absurd h
 less_of_test Greater h = absurd h

@@ -7,7 +7,8 @@ use Rattle.std.proofs.lemmas.List.Elements.{filter_map-append}
 use Rattle.std.specs.Ordering.{ordering_then}
 use Rattle.std.specs.Cmp.Lexicographic.{slice_cmp}
 use Rattle.std.specs.FinMap.{entries}
-use Rattle.byte_model.proofs.Digits.{nat_cmp-greater, AreNibbles-nibbles}
+use Rattle.byte_model.proofs.Lists.{AllByRecursion-weaker}
+use Rattle.byte_model.proofs.Digits.{nat_cmp-greater, AreNibbles-nibbles, AreNibbles-rest}
 use Rattle.trie_model.proofs.Worked.{Pair, rows_of_pairs}
 use Rattle.byte_model.specs.Below.{joined_below}
 use Rattle.byte_model.specs.Nibbles.{AreNibbles}
@@ -16,7 +17,7 @@ use Rattle.trie_model.specs.Tree.{Tree, nothing, leaf, branch, extension, rest_b
 use Rattle.trie_model.specs.Texts.{behind, places}
 use Rattle.trie_model.specs.Root.{subtree_at, places_of}
 use Rattle.trie_model.specs.Laws.{held_by, held_at}
-use Rattle.trie_model.proofs.Joined.{joined_below-agree}
+use Rattle.byte_model.proofs.Below.{joined_below-agree}
 use Rattle.trie_model.proofs.Rests.{below-nil, below-append, below-none, under, under-below, AllHavePrefix, common_prefix-all, same_nibble, prefix_and_rest}
 use Rattle.trie_model.proofs.Trees.{tree_of-nil, tree_of-one, tree_of-forks, tree_of-shares, by_cases}
 use Rattle.trie_model.proofs.Costs.{subtree_at-root}
@@ -182,10 +183,6 @@ skips_top : (x : ℕ) (value : List ℕ) (rows : List Row) → by_nibble (([], v
 unfolding below rest_behind
 skips_top x value rows = refl
 
-all_weaker : (P Q : Row → Type 0) → ((row : Row) → P row → Q row) → (rows : List Row) → AllByRecursion P rows → AllByRecursion Q rows
-all_weaker P Q weaker [] h = tt
-all_weaker P Q weaker (row ∷ rows) h = (weaker row h.0, all_weaker P Q weaker rows h.1)
-
 without_top : (rows : List Row) → ends_here rows ≡ None → here (ends_here rows) ++ joined_below (by_nibble rows) 16 ≡ rows → joined_below (by_nibble rows) 16 ≡ rows
 without_top rows none e = ap (λ o. here o ++ joined_below (by_nibble rows) 16) (sym none) ∙ e
 
@@ -204,11 +201,11 @@ pub rows_by_nibble : (rows : List Row) → RisingRows rows → Small rows → he
 unfolding ends_here
 rows_by_nibble [] rising small = joined_none (by_nibble []) 16 (λ x h. ap (under (x ∷ [])) (below-none (x ∷ [])))
 rows_by_nibble (([], value) ∷ rows) rising small =
-    let later : From 0 rows = all_weaker _ _ (λ row b. from_empty row.0 b) rows rising.0 in
+    let later : From 0 rows = AllByRecursion-weaker _ _ (λ row b. from_empty row.0 b) rows rising.0 in
     let rest = without_top rows (ends_here-from 0 rows later) (rows_by_nibble rows rising.1 small.1) in
     ap (λ (rs : List Row). ([], value) ∷ rs) (joined_below-agree _ _ 16 (λ x h. skips_top x value rows) ∙ rest)
 rows_by_nibble ((y ∷ p, value) ∷ rows) rising small =
-    let later : From y rows = all_weaker _ _ (λ row b. from_before y p row.0 b) rows rising.0 in
+    let later : From y rows = AllByRecursion-weaker _ _ (λ row b. from_before y p row.0 b) rows rising.0 in
     let none = ends_here-from y rows later in
     let rest = without_top rows none (rows_by_nibble rows rising.1 small.1) in
     ap (λ o. here o ++ joined_below (by_nibble ((y ∷ p, value) ∷ rows)) 16) none
@@ -216,10 +213,6 @@ rows_by_nibble ((y ∷ p, value) ∷ rows) rising small =
     ∙ ap (λ (rs : List Row). (y ∷ p, value) ∷ rs) rest
 
 -- ---- a trie holds its rows
-
-AreNibbles-rest : (prefix rest : List ℕ) → AreNibbles (prefix ++ rest) → AreNibbles rest
-AreNibbles-rest [] rest h = h
-AreNibbles-rest (x ∷ prefix) rest h = AreNibbles-rest prefix rest h.1
 
 pub small-below : (prefix : List ℕ) (rows : List Row) → Small rows → Small (below prefix rows)
 small-below prefix rows small = all-below (λ row. AreNibbles row.0) (λ row. AreNibbles row.0) prefix (λ row rest e h. AreNibbles-rest prefix rest (subst AreNibbles (prefix_and_rest prefix row.0 rest e) h)) rows small

@@ -4,7 +4,7 @@ use Rattle.byte_model.specs.Below.{joined_below}
 use Rattle.trie_model.specs.State.{Row}
 use Rattle.trie_model.specs.Tree.{Tree, nothing, leaf, branch, extension, below, tree_of}
 use Rattle.trie_model.specs.Texts.{text, behind, places}
-use Rattle.trie_model.proofs.Joined.{map-joined_below, joined_below-agree}
+use Rattle.byte_model.proofs.Below.{map-joined_below, joined_below-agree}
 use Rattle.trie_model.proofs.Rests.{below-nil, below-append}
 use Rattle.trie_model.proofs.Trees.{tree_of-nil, tree_of-one, tree_of-forks, tree_of-shares, by_cases}
 

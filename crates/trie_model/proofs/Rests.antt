@@ -2,6 +2,7 @@
 use Rattle.std.proofs.Common.{append_assoc, append-nil, ◌≢◌, ◌≡◌, ℕ, ◌==◌, true, false, List, [], ◌∷◌, ◌++◌, map, None, Some, option_map, option_and_then, ap₂, refl, sym, ◌∙◌, ap, arith, if◌then◌else◌}
 use Rattle.std.specs.List.{cons_option, AllByRecursion}
 use Rattle.std.proofs.lemmas.Bool.Decides.{nat_tests}
+use Rattle.byte_model.proofs.Lists.{first_same, rest_same, AllByRecursion-weaker}
 use Rattle.trie_model.specs.State.{Row}
 use Rattle.trie_model.specs.Tree.{rest_behind, row_behind, below, common, common_prefix}
 
@@ -47,18 +48,8 @@ prefix_and_rest (x ∷ prefix) (y ∷ path) rest e =
       | false ↦ λ t h. cc
     ] refl e
 
-pub first_same : {x y : ℕ} {xs ys : List ℕ} → x ∷ xs ≡ y ∷ ys → x ≡ y
-first_same e = cc
-
-pub rest_same : {x y : ℕ} {xs ys : List ℕ} → x ∷ xs ≡ y ∷ ys → xs ≡ ys
-rest_same e = cc
-
 pub none_cons : (x : ℕ) (xs : List ℕ) → [] ≡ x ∷ xs → ⊥
 none_cons x xs e = cc
-
-AllByRecursion-weaker : {X : Type 0} (P Q : X → Type 0) → ((x : X) → P x → Q x) → (xs : List X) → AllByRecursion P xs → AllByRecursion Q xs
-AllByRecursion-weaker P Q weaker [] h = tt
-AllByRecursion-weaker P Q weaker (x ∷ xs) h = (weaker x h.0, AllByRecursion-weaker P Q weaker xs h.1)
 
 -- ---- rows below a path
 

@@ -1,5 +1,6 @@
 -- Roots, and tables that hold a state.
-use Rattle.std.proofs.Common.{◌≡◌, ◌≢◌, ◌↔◌, ℕ, List, [], ◌∷◌, length, map, Some, Contains, refl, sym, ◌∙◌, ap, subst}
+use Rattle.std.proofs.Common.{◌≡◌, ◌≢◌, ◌↔◌, ℕ, List, [], ◌∷◌, length, map, Contains, refl, sym, ◌∙◌, ap, subst}
+use Rattle.std.proofs.lemmas.Option.{same_Some}
 use Rattle.std.proofs.lemmas.List.Elements.{Contains-append_left}
 use Rattle.std.specs.FinMap.{get, entries, empty, len-entries, empty_of_len, same_entries_map}
 use Rattle.sha2.specs.Sha256.{sha256}
@@ -7,6 +8,7 @@ use Rattle.trie_model.specs.State.{State, Row, rows_of}
 use Rattle.trie_model.specs.Tree.{tree_of}
 use Rattle.trie_model.specs.Texts.{text, places}
 use Rattle.trie_model.specs.Root.{zero_digest, text_at, places_of, texts_of, root_of, root, Table, Holds, NoClash}
+use Rattle.byte_model.proofs.Lists.{first_same, rest_same}
 use Rattle.byte_model.proofs.Digits.{nibbles-same}
 use Rattle.trie_model.proofs.Worked.{Pair, rows_of_pairs, root-empty}
 use Rattle.trie_model.proofs.Members.{IsIn, in-map, contains_of_in, in_of_contains, all_at}
@@ -14,16 +16,13 @@ use Rattle.trie_model.proofs.Trees.{tree_of-one, tree_of-forks, tree_of-shares, 
 use Rattle.trie_model.proofs.Costs.{subtree_at-root}
 use Rattle.trie_model.proofs.Children.{root_is_place}
 
-some_same : (a b : List ℕ) → Some a ≡ Some b → a ≡ b
-some_same a b e = cc
-
 -- a text that the table has under its digest is the only one that it has there
 pub NoClash-held : (table : Table) (state : State) → Holds table state → NoClash (texts_of state)
 NoClash-held table state held = record {
   apart = λ a b here there e.
       let first = all_at _ (texts_of state) a held.found (in_of_contains _ a here) in
       let second = all_at _ (texts_of state) b held.found (in_of_contains _ b there) in
-      some_same a b (sym first ∙ ap (get table) e ∙ second);
+      same_Some a b (sym first ∙ ap (get table) e ∙ second);
   nonzero = λ a here. all_at _ (texts_of state) a held.nonzero (in_of_contains _ a here);
 }
 
@@ -77,27 +76,21 @@ root-zero state nonzero = (empty_of_root state nonzero, λ e. ap root e ∙ root
 
 -- ---- rows tell states apart
 
-first_row : {r s : Row} {rs ss : List Row} → r ∷ rs ≡ s ∷ ss → r ≡ s
-first_row e = cc
-
-other_rows : {r s : Row} {rs ss : List Row} → r ∷ rs ≡ s ∷ ss → rs ≡ ss
-other_rows e = cc
-
-pairs_same : (ms ns : List Pair) → rows_of_pairs ms ≡ rows_of_pairs ns → ms ≡ ns
+pub pairs_same : (ms ns : List Pair) → rows_of_pairs ms ≡ rows_of_pairs ns → ms ≡ ns
 pairs_same [] [] e = refl
 pairs_same [] (n ∷ ns) e = absurd (cons_none _ _ (sym e))
 pairs_same (m ∷ ms) [] e = absurd (cons_none _ _ e)
 pairs_same (m ∷ ms) (n ∷ ns) e =
     let key = nibbles-same m.0 n.0 (first_path e) in
     let value = first_value e in
-    let further = pairs_same ms ns (other_rows e) in
+    let further = pairs_same ms ns (rest_same e) in
     λ i. (key i, value i) ∷ further i
   where
     first_path : {r s : Row} {rs ss : List Row} → r ∷ rs ≡ s ∷ ss → r.0 ≡ s.0
-    first_path e = ap (λ (row : Row). row.0) (first_row e)
+    first_path e = ap (λ (row : Row). row.0) (first_same e)
 
     first_value : {r s : Row} {rs ss : List Row} → r ∷ rs ≡ s ∷ ss → r.1 ≡ s.1
-    first_value e = ap (λ (row : Row). row.1) (first_row e)
+    first_value e = ap (λ (row : Row). row.1) (first_same e)
 
 pub rows_of-same : (m n : State) → rows_of m ≡ rows_of n → m ≡ n
 unfolding rows_of

@@ -1,5 +1,5 @@
 -- The nodes of a state's trie fit their records and have the shape that nodes have.
-use Rattle.std.proofs.Common.{◌≡◌, ◌≢◌, ℕ, zero, suc, ◌+◌, ◌<◌, ◌≤◌, ◌==◌, Bool, true, if◌then◌else◌, List, [], ◌∷◌, ◌++◌, length, Option, None, Some, IfSome, is_some, option_map, refl, sym, ◌∙◌, ap, subst, inl, inr, arith}
+use Rattle.std.proofs.Common.{◌≡◌, ◌≢◌, ℕ, zero, suc, ◌+◌, ◌<◌, ◌≤◌, ◌==◌, Bool, true, if◌then◌else◌, List, [], ◌∷◌, length, Option, None, Some, IfSome, is_some, option_map, refl, sym, ◌∙◌, ap, subst, inl, inr, arith}
 use Rattle.std.specs.List.{AllByRecursion, cons_option}
 use Rattle.trie_model.proofs.Members.{IsIn, all_at}
 use Rattle.std.proofs.lemmas.Bool.{cases_lt}
@@ -8,6 +8,7 @@ use Rattle.std.specs.FinMap.{entries}
 use Rattle.sha2.proofs.Facts256.{length-sha256}
 use Rattle.byte_model.specs.Below.{sum_below}
 use Rattle.byte_model.specs.Nibbles.{AreNibbles}
+use Rattle.byte_model.proofs.Digits.{AreNibbles-prefix}
 use Rattle.byte_model.specs.Node as node
 use Rattle.byte_model.specs.Node.{Node, ValueRef, IsShaped, child_count, longest_value}
 use Rattle.byte_model.specs.Laws.{IsDigest, NamesValue, FitsRecord}
@@ -24,7 +25,7 @@ use Rattle.trie_model.proofs.Growth.{last_row, common_prefix-rising}
 
 -- ---- a name is there where there are rows
 
-name_of-some : (rows : List Row) (t : List ℕ) → rows ≢ [] → is_some (name_of (tree_of rows) t) ≡ true
+pub name_of-some : (rows : List Row) (t : List ℕ) → rows ≢ [] → is_some (name_of (tree_of rows) t) ≡ true
 unfolding name_of
 name_of-some rows t = go rows
   where
@@ -36,7 +37,7 @@ name_of-some rows t = go rows
       shares = λ row next more x prefix e further some. subst (λ tree. is_some (name_of tree t) ≡ true) (sym (tree_of-shares row next more x prefix e)) refl;
     })
 
-name_of-digest : (tree : Tree) (t : List ℕ) → IfSome (name_of tree t) IsDigest
+pub name_of-digest : (tree : Tree) (t : List ℕ) → IfSome (name_of tree t) IsDigest
 unfolding name_of
 name_of-digest nothing t = tt
 name_of-digest (leaf path value) t = length-sha256 t
@@ -170,10 +171,6 @@ names_value value h = (omega arith, length-sha256 value)
 names_maybe : (value : Option (List ℕ)) → IfSome value (λ v. length v ≤ longest_value) → IfSome (option_map value_ref value) NamesValue
 names_maybe None h = tt
 names_maybe (Some value) h = names_value value h
-
-AreNibbles-prefix : (prefix rest : List ℕ) → AreNibbles (prefix ++ rest) → AreNibbles prefix
-AreNibbles-prefix [] rest h = tt
-AreNibbles-prefix (x ∷ prefix) rest h = (h.0, AreNibbles-prefix prefix rest h.1)
 
 pub sound_nodes : (rows : List Row) → RisingRows rows → Small rows → ShortValues rows → IfSome (node_of (tree_of rows)) (λ node. IsShaped node × FitsRecord node)
 unfolding node_of

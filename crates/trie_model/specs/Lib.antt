@@ -1,5 +1,6 @@
 pub mod State
 pub mod Tree
+pub mod Grown
 pub mod Texts
 pub mod Root
 pub mod Laws

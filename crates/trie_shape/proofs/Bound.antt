@@ -9,7 +9,7 @@ use Rattle.trie_model.specs.Tree.{Tree, nothing, leaf, branch, extension, rest_b
 use Rattle.trie_model.specs.Texts.{top_cost, usage}
 use Rattle.std.proofs.lemmas.List.{length-append}
 use Rattle.std.proofs.lemmas.Bool.Decides.{nat_tests}
-use Rattle.trie_model.proofs.Joined.{sum_below-agree}
+use Rattle.byte_model.proofs.Below.{sum_below-agree}
 use Rattle.trie_model.proofs.Rests.{equal_of_test, rest_behind-prefix, prefix_and_rest, common_prefix-all, AllHavePrefix}
 use Rattle.trie_model.proofs.Trees.{tree_of-nil, tree_of-one, tree_of-forks, tree_of-shares, by_cases}
 

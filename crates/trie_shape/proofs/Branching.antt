@@ -14,7 +14,7 @@ use Rattle.byte_model.specs.Node.{IsShaped, child_count, longest_value, own_cost
 use Rattle.trie_model.specs.State.{Row}
 use Rattle.trie_model.specs.Tree.{Tree, branch, below, ends_here, tree_of}
 use Rattle.trie_model.specs.Texts.{text, usage, top_cost, value_ref, name_of}
-use Rattle.trie_model.proofs.Joined.{sum_below-agree}
+use Rattle.byte_model.proofs.Below.{sum_below-agree}
 use Rattle.trie_model.proofs.Trees.{tree_of-forks}
 use Rattle.node_codec.specs.Meanings.{children_in}
 use Rattle.trie_shape.specs.declared.closed.Closed.{Closed}

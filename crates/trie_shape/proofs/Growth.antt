@@ -4,7 +4,7 @@ use Rattle.trie_model.specs.State.{Row}
 use Rattle.trie_model.specs.Tree.{extension, below, common, common_prefix, tree_of}
 use Rattle.trie_model.proofs.Rests.{under, below-under, below-append, same_nibble}
 use Rattle.trie_model.proofs.Trees.{tree_of-nil, tree_of-one, tree_of-forks, tree_of-shares}
-use Rattle.trie_shape.specs.Grown.{grown}
+use Rattle.trie_model.specs.Grown.{grown}
 
 -- two paths with a prefix put before them share the prefix and what they shared
 pub common-prefix : (prefix p q : List ℕ) → common (prefix ++ p) (prefix ++ q) ≡ prefix ++ common p q

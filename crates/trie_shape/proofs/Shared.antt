@@ -6,8 +6,9 @@ use Rattle.std.proofs.Math.Seq.{drop-append_seam}
 use Rattle.std.proofs.lemmas.List.{length-take-le}
 use Rattle.trie_model.specs.State.{Row}
 use Rattle.trie_model.specs.Tree.{rest_behind, below, common, tree_of}
-use Rattle.trie_model.proofs.Rests.{under, under-below, common_prefix-all, AllHavePrefix, rest_behind-prefix, same_nibble, equal_of_test, first_same, rest_same}
-use Rattle.trie_shape.specs.Grown.{grown}
+use Rattle.byte_model.proofs.Lists.{first_same, rest_same}
+use Rattle.trie_model.proofs.Rests.{under, under-below, common_prefix-all, AllHavePrefix, rest_behind-prefix, same_nibble, equal_of_test}
+use Rattle.trie_model.specs.Grown.{grown}
 use Rattle.trie_shape.specs.Runs.{IsBelow, Rises, prefix_of}
 use Rattle.trie_shape.proofs.Growth.{common_prefix-under, tree_of-under}
 use Rattle.trie_shape.proofs.Rising.{last_of, common_prefix-rising}

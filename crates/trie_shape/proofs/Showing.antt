@@ -7,13 +7,13 @@ use Rattle.base_core.specs.declared.hash.Digest.{Digest}
 use Rattle.byte_model.specs.Node as node
 use Rattle.byte_model.specs.Borsh.{borsh_u16, borsh_u64}
 use Rattle.byte_model.specs.Below.{sum_below}
-use Rattle.trie_model.proofs.Joined.{sum_below-agree, joined_below-agree}
+use Rattle.byte_model.proofs.Below.{sum_below-agree, joined_below-agree}
 use Rattle.byte_model.specs.Node.{Node, spelled_children, spelled_value, child_bit, child_digest, spelled, own_cost, ValueRef as ValueOfRecord}
 use Rattle.node_codec.specs.Meanings.{value_of}
 use Rattle.trie_shape.specs.declared.closed.Closed.{Closed}
 use Rattle.trie_shape.specs.declared.sub.Sub.{Sub}
 use Rattle.trie_shape.specs.declared.sub.Sub.TheVariants.{Empty, Leaf, Branch, Extension}
-use Rattle.trie_shape.specs.Grown.{grown}
+use Rattle.trie_model.specs.Grown.{grown}
 use Rattle.trie_shape.specs.Shows.{Shows, under_of, top_node, usage_of, IsRecord, IsTop, IsName}
 
 shows-under_of : (nibbles : List ℕ) (self : Sub) (tree : Tree) → Shows self tree → Shows (under_of nibbles self) (grown nibbles tree)

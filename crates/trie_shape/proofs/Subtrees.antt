@@ -16,7 +16,7 @@ use Rattle.trie_model.proofs.Trees.{tree_of-nil, tree_of-one, tree_of-forks, tre
 use Rattle.node_codec.specs.Meanings.{value_of}
 use Rattle.trie_shape.specs.declared.sub.Sub.{Sub}
 use Rattle.trie_shape.specs.declared.sub.Sub.TheVariants.{Empty, Leaf, Branch, Extension}
-use Rattle.trie_shape.specs.Grown.{grown}
+use Rattle.trie_model.specs.Grown.{grown}
 use Rattle.trie_shape.specs.Runs.{Rises, prefix_of}
 use Rattle.trie_shape.specs.RowsAt.{Lent, row_at, rows_at, IsRowAt, AreRowsAt}
 use Rattle.trie_shape.specs.Shows.{Shows, top_node, path_of, usage_of}

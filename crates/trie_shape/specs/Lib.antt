@@ -1,5 +1,4 @@
 pub mod Fitting
-pub mod Grown
 pub mod Runs
 pub mod RowsAt
 pub mod Shows

@@ -10,7 +10,7 @@ ghost use Rattle.trie_model.specs.Tree.{Tree, tree_of, leaf};
 ghost use Rattle.trie_model.specs.Texts as texts;
 ghost use Rattle.trie_model.specs.Root as state;
 ghost use Rattle.node_codec.specs.Meanings.{value_of, children_in};
-ghost use Rattle.trie_shape.specs.Grown.{grown};
+ghost use Rattle.trie_model.specs.Grown.{grown};
 ghost use Rattle.trie_shape.specs.Runs.{prefix_of};
 ghost use Rattle.trie_shape.specs.RowsAt.{rows_at, AreRowsAt};
 ghost use Rattle.trie_shape.specs.Shows.{Shows, IsName, top_node, path_of, usage_of};

@@ -4,7 +4,7 @@ ghost use Rattle.byte_model.specs.Nibbles.{AreNibbles};
 ghost use Rattle.byte_model.specs.PackedPath.{longest_path};
 ghost use Rattle.byte_model.specs.Node.{IsShaped};
 ghost use Rattle.trie_model.specs.Tree.{Tree};
-ghost use Rattle.trie_shape.specs.Grown.{grown};
+ghost use Rattle.trie_model.specs.Grown.{grown};
 
 use crate::close_error::CloseError;
 use crate::closed::Closed;

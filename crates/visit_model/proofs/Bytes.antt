@@ -1,8 +1,9 @@
 -- Where all texts are bytes, the paths that are seen are nibbles.
-use Rattle.std.proofs.Common.{◌≡◌, ℕ, List, [], ◌∷◌, ◌++◌, Ok}
+use Rattle.std.proofs.Common.{◌≡◌, ℕ, List, Ok}
 use Rattle.std.specs.List.{AllByRecursion}
 use Rattle.std.proofs.lemmas.Result.{IfOk-at_ok}
 use Rattle.byte_model.specs.Nibbles.{AreBytes, AreNibbles}
+use Rattle.byte_model.proofs.Digits.{AreNibbles-append}
 use Rattle.byte_model.specs.Node as node
 use Rattle.byte_model.specs.Node.{Node}
 use Rattle.byte_model.specs.Laws.{FitsRecord}
@@ -19,10 +20,6 @@ parts_fit : (bytes : List ℕ) (n : Node) (usage : ℕ) → AreBytes bytes → r
 parts_fit bytes n usage h e =
     let whole : IsRecord n usage bytes = IfOk-at_ok (λ r. IsRecord r.0 r.1 bytes) e (record_in-found bytes h).given in
     whole.fields
-
-AreNibbles-append : (prefix path : List ℕ) → AreNibbles prefix → AreNibbles path → AreNibbles (prefix ++ path)
-AreNibbles-append [] path h k = k
-AreNibbles-append (x ∷ prefix) path h k = (h.0, AreNibbles-append prefix path h.1 k)
 
 pub nibbles-seen : (table : Table) (root : List ℕ) → AreByteTexts table → AllByRecursion (λ name. AreNibbles name.0) (named_in (seen table root))
 nibbles-seen table root bytes = all_seen table (λ depth name. AreNibbles name.0) (record {

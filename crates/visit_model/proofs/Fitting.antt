@@ -3,8 +3,10 @@ use Rattle.std.proofs.Common.{◌≡◌, ℕ, zero, suc, ◌+◌, ◌-◌, ◌%�
 use Rattle.std.specs.List.{AllByRecursion}
 use Rattle.std.specs.Cmp.Lexicographic.{pointwise}
 use Rattle.std.specs.FinMap.{get}
+use Rattle.std.proofs.lemmas.Bool.{and_parts}
 use Rattle.std.proofs.lemmas.Bool.Decides.{nat_tests}
 use Rattle.byte_model.specs.Below.{joined_below}
+use Rattle.byte_model.proofs.Lists.{AllByRecursion-append}
 use Rattle.byte_model.specs.PackedPath.{longest_path}
 use Rattle.byte_model.specs.Node as node
 use Rattle.byte_model.specs.Node.{Node, ValueRef, longest_value, child_count}
@@ -36,14 +38,10 @@ all-beneath : (P Q : Named → Type 0) (prefix : List ℕ) → ((name : Named) �
 all-beneath P Q prefix step [] h = tt
 all-beneath P Q prefix step (name ∷ names) h = (step name h.0, all-beneath P Q prefix step names h.1)
 
-all-append : (P : Named → Type 0) (names others : List Named) → AllByRecursion P names → AllByRecursion P others → AllByRecursion P (names ++ others)
-all-append P [] others h k = k
-all-append P (name ∷ names) others h k = (h.0, all-append P names others h.1 k)
-
 all-joined_below : (P : Named → Type 0) (names : ℕ → List Named) (n : ℕ) → ((x : ℕ) → x < n → AllByRecursion P (names x)) → AllByRecursion P (joined_below names n)
 unfolding joined_below
 all-joined_below P names zero each = tt
-all-joined_below P names (suc n) each = all-append P (joined_below names n) (names n) (all-joined_below P names n (λ x h. each x (omega arith))) (each n (omega arith))
+all-joined_below P names (suc n) each = AllByRecursion-append P (joined_below names n) (names n) (all-joined_below P names n (λ x h. each x (omega arith))) (each n (omega arith))
 
 module _ (table : Table) (P : ℕ → Named → Type 0) (passes : PassesUp table P) where
   -- it holds of all values below what is looked at
@@ -64,7 +62,7 @@ module _ (table : Table) (P : ℕ → Named → Type 0) (passes : PassesUp table
   all_of_node look so depth after_extension digest (node.leaf path ref) usage h = (passes.leaf depth after_extension path ref h, tt)
   all_of_node look so depth after_extension digest (node.branch value kids) usage h =
       let child : ℕ → Seen = λ x. seen_child (look (depth + 1) false) (kids x) in
-      all-append (P depth) (name_here value) (joined_below (λ x. beneath (x ∷ []) (named_in (child x))) 16) (all_here depth after_extension value kids h)
+      AllByRecursion-append (P depth) (name_here value) (joined_below (λ x. beneath (x ∷ []) (named_in (child x))) 16) (all_here depth after_extension value kids h)
       (all-joined_below (P depth) (λ x. beneath (x ∷ []) (named_in (child x))) 16 (λ x small. all-beneath (P (depth + 1)) (P depth) (x ∷ []) (λ name k. passes.in_branch depth x name small k) (named_in (child x)) (all_of_child look so depth (kids x))))
   all_of_node look so depth after_extension digest (node.extension path child) usage h =
       all-beneath (P (depth + length path)) (P depth) path (passes.in_extension depth after_extension path child h) (named_in (look (depth + length path) true child)) (so (depth + length path) true child)
@@ -103,14 +101,6 @@ pub record NameFits (depth : ℕ) (name : Named) : Type 0 where
   pub path_length : depth + length name.0 ≤ longest_path
   pub value_length : name.1.length ≤ longest_value
 
-both_first : (a b : Bool) → (a && b) ≡ true → a ≡ true
-both_first true b h = refl
-both_first false b h = h
-
-both_second : (a b : Bool) → (a && b) ≡ true → b ≡ true
-both_second true b h = h
-both_second false b h = cc
-
 is_whole-even : (n : ℕ) → is_whole n ≡ true → n % 2 ≡ 0
 is_whole-even n h = grind (arith, nat_tests)
 
@@ -124,25 +114,26 @@ fits_leaf : (depth : ℕ) (after_extension : Bool) (path : List ℕ) (ref : Valu
 unfolding has_place
 fits_leaf depth after_extension path ref h =
     let n : ℕ = depth + length path in
-    let place = both_second (nat_le ref.length longest_value) (is_whole n && nat_le n longest_path && not after_extension) h in
-    let ends = both_first (is_whole n && nat_le n longest_path) (not after_extension) place in
+    let fits = and_parts (nat_le ref.length longest_value) (is_whole n && nat_le n longest_path && not after_extension) h in
+    let ends = and_parts (is_whole n) (nat_le n longest_path) (and_parts (is_whole n && nat_le n longest_path) (not after_extension) fits.1).0 in
     record {
-      whole = is_whole-even n (both_first (is_whole n) (nat_le n longest_path) ends);
-      path_length = nat_le-le n longest_path (both_second (is_whole n) (nat_le n longest_path) ends);
-      value_length = nat_le-le ref.length longest_value (both_first (nat_le ref.length longest_value) (is_whole n && nat_le n longest_path && not after_extension) h);
+      whole = is_whole-even n ends.0;
+      path_length = nat_le-le n longest_path ends.1;
+      value_length = nat_le-le ref.length longest_value fits.0;
     }
 
 fits_here : (depth : ℕ) (after_extension : Bool) (ref : ValueRef) (kids : ℕ → Option (List ℕ)) → fits_at depth after_extension (node.branch (Some ref) kids) ≡ true → NameFits depth ([], ref)
 unfolding has_place
 fits_here depth after_extension ref kids h =
-    let shape = both_first (nat_le ref.length longest_value && nat_le 1 (child_count kids)) (nat_lt depth longest_path && is_whole depth) h in
-    let place = both_second (nat_le ref.length longest_value && nat_le 1 (child_count kids)) (nat_lt depth longest_path && is_whole depth) h in
-    let inside : depth < longest_path = nat_lt-lt depth longest_path (both_first (nat_lt depth longest_path) (is_whole depth) place) in
-    let even : depth % 2 ≡ 0 = is_whole-even depth (both_second (nat_lt depth longest_path) (is_whole depth) place) in
+    let fits = and_parts (nat_le ref.length longest_value && nat_le 1 (child_count kids)) (nat_lt depth longest_path && is_whole depth) h in
+    let shape = and_parts (nat_le ref.length longest_value) (nat_le 1 (child_count kids)) fits.0 in
+    let place = and_parts (nat_lt depth longest_path) (is_whole depth) fits.1 in
+    let inside : depth < longest_path = nat_lt-lt depth longest_path place.0 in
+    let even : depth % 2 ≡ 0 = is_whole-even depth place.1 in
     record {
       whole = omega arith;
       path_length = omega arith;
-      value_length = nat_le-le ref.length longest_value (both_first (nat_le ref.length longest_value) (nat_le 1 (child_count kids)) shape);
+      value_length = nat_le-le ref.length longest_value shape.0;
     }
 
 fits_behind : (depth : ℕ) (prefix : List ℕ) (name : Named) → NameFits (depth + length prefix) name → NameFits depth (prefix ++ name.0, name.1)

@@ -15,7 +15,7 @@ use Rattle.trie_model.specs.Texts.{value_ref, behind, places}
 use Rattle.trie_model.specs.Root.{Table, Holds, root, subtree_at, places_of}
 use Rattle.trie_model.specs.Laws.{held_by, held_at}
 use Rattle.trie_model.proofs.Costs.{subtree_at-root}
-use Rattle.trie_model.proofs.Joined.{joined_below-agree}
+use Rattle.byte_model.proofs.Below.{joined_below-agree}
 use Rattle.trie_model.proofs.Pairs.{prefixed, held_below}
 use Rattle.trie_model.proofs.Rests.{below-nil, below-append}
 use Rattle.trie_model.proofs.Trees.{tree_of-nil, tree_of-one, tree_of-forks, tree_of-shares, by_cases}

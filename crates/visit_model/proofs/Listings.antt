@@ -17,7 +17,7 @@ use Rattle.trie_model.specs.Texts.{value_ref}
 use Rattle.trie_model.specs.Root.{Table, Holds, root}
 use Rattle.trie_model.proofs.Worked.{Pair, rows_of_pairs}
 use Rattle.trie_model.proofs.Costs.{subtree_at-root}
-use Rattle.trie_model.proofs.Joined.{joined_below-agree, map-joined_below}
+use Rattle.byte_model.proofs.Below.{joined_below-agree, map-joined_below}
 use Rattle.trie_model.proofs.Order.{rising-rows_of}
 use Rattle.trie_model.proofs.Pairs.{here, held, held-tree_of, small-rows_of}
 use Rattle.trie_model.proofs.Rests.{under}

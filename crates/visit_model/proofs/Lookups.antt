@@ -10,7 +10,7 @@ use Rattle.std.proofs.lemmas.Bool.Decides.{nat_tests}
 use Rattle.sha2.specs.Sha256.{sha256}
 use Rattle.byte_model.specs.Below.{joined_below}
 use Rattle.byte_model.specs.Nibbles.{AreBytes, AreNibbles, nibbles}
-use Rattle.byte_model.proofs.Digits.{AreNibbles-nibbles, nibbles-same}
+use Rattle.byte_model.proofs.Digits.{AreNibbles-nibbles, AreNibbles-rest, nibbles-same}
 use Rattle.trie_model.specs.State.{State, Row, IsState, rows_of}
 use Rattle.trie_model.specs.Tree.{Tree, branch, extension, rest_behind, below, ends_here, tree_of}
 use Rattle.trie_model.specs.Texts.{text, value_ref, behind, places}
@@ -168,10 +168,6 @@ told_branch rows e further before path small = subst (λ t. lookup_steps (shown 
         ∙ ap₂ (λ (ss : List Step) (vs : List Step). ss ++ vs)
         (sym (map-behind node_of_tree rows (y ∷ []) (filter (has_prefix p) (places (kids y)))) ∙ ap (map (at_place node_of_tree rows)) (sym (kept_at y p (λ x. places (kids x)) h.0)))
         (ap₂ (λ (q : List ℕ) (rs : List Row). value_steps q (option_map value_ref (ends_here rs))) (append_assoc before (y ∷ []) p) (sym (below-append (y ∷ []) p rows))))
-
-AreNibbles-rest : (prefix rest : List ℕ) → AreNibbles (prefix ++ rest) → AreNibbles rest
-AreNibbles-rest [] rest h = h
-AreNibbles-rest (x ∷ prefix) rest h = AreNibbles-rest prefix rest h.1
 
 told_extension : (rows : List Row) (prefix : List ℕ) → AllHavePrefix prefix rows → tree_of rows ≡ extension prefix (tree_of (below prefix rows)) → AllTold (below prefix rows) → AllTold rows
 unfolding shown lookup_steps places rest_behind behind_prefix

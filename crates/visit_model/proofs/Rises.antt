@@ -13,7 +13,7 @@ use Rattle.byte_model.specs.Node.{ValueRef, longest_value}
 use Rattle.trie_model.specs.State.{State, Row, IsState, rows_of}
 use Rattle.trie_model.specs.Texts.{behind}
 use Rattle.trie_model.specs.Root.{Table}
-use Rattle.trie_model.proofs.Joined.{joined_below-agree, map-joined_below}
+use Rattle.byte_model.proofs.Below.{joined_below-agree, map-joined_below}
 use Rattle.trie_model.proofs.Members.{IsIn, in_map_from, in_joined_below_from}
 use Rattle.trie_model.proofs.Rests.{equal_of_test}
 use Rattle.trie_model.proofs.Order.{Before, Rising, before_by_first, rising-append, rising-behind}

@@ -7,7 +7,7 @@ use Rattle.std.proofs.lemmas.List.{map-append}
 use Rattle.std.proofs.lemmas.List.Elements.{filter-append}
 use Rattle.byte_model.specs.Below.{joined_below}
 use Rattle.byte_model.specs.Node.{ValueRef}
-use Rattle.trie_model.proofs.Joined.{joined_below-agree, map-joined_below}
+use Rattle.byte_model.proofs.Below.{joined_below-agree, map-joined_below}
 use Rattle.visit_model.specs.Seen.{Seen, nothing, missing, bad, leaf, branch, extension}
 use Rattle.visit_model.specs.Steps.{Step, node, no_text, no_node, value, behind, bound_behind, reached_steps, listing_steps}
 use Rattle.visit_model.specs.Bounds.{reaches}

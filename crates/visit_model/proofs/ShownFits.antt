@@ -13,6 +13,7 @@ use Rattle.byte_model.specs.Laws.{FitsRecord}
 use Rattle.byte_model.proofs.Digits.{length-nibbles}
 use Rattle.byte_model.proofs.Paths.{length-packed}
 use Rattle.record_model.specs.Records.{IsRecord, HasShortPath, has_shape}
+use Rattle.record_model.proofs.Nodes.{shape_only}
 use Rattle.record_model.specs.Fits.{fits_at, has_place, is_whole}
 use Rattle.trie_model.specs.State.{State, Row, IsPair, IsState, rows_of}
 use Rattle.trie_model.specs.Tree.{Tree, nothing, leaf, branch, extension, rest_behind, below, ends_here, common_prefix, tree_of}
@@ -49,18 +50,6 @@ FitsBelow depth after_extension (extension path child) = TopFits depth after_ext
 
 -- ---- from a shape and a place to a record that fits
 
-shape_test : (n : Node) → IsShaped n → has_shape n ≡ true
-shape_test (node.leaf path value) shaped = grind (arith, nat_tests)
-shape_test (node.branch None kids) shaped = grind (arith, nat_tests)
-shape_test (node.branch (Some value) kids) shaped =
-    let fits = shaped.0 in
-    let some = shaped.1 in
-    let short : nat_le value.length longest_value ≡ true = grind (arith, nat_tests) in
-    let enough : nat_le 1 (child_count kids) ≡ true = grind (arith, nat_tests) in
-    rw (short, enough) refl
-shape_test (node.extension [] child) shaped = absurd (shaped refl)
-shape_test (node.extension (x ∷ path) child) shaped = grind (arith, nat_tests)
-
 short_test : (depth : ℕ) (path : List ℕ) → nat_le (depth + length path) longest_path ≡ true → length path ≤ longest_path
 short_test depth path test = grind (arith, nat_tests)
 
@@ -93,7 +82,7 @@ HasPlace depth after_extension tree = IfSome (node_of tree) (λ n. has_place dep
 top_fits : (depth : ℕ) (after_extension : Bool) (tree : Tree) → IfSome (node_of tree) (λ n. IsShaped n × FitsRecord n) → usage tree < 2 ^ 64 → HasPlace depth after_extension tree → TopFits depth after_extension tree
 top_fits depth after_extension tree sound small place =
     IfSome-from (node_of tree) (λ n. IsShaped n × FitsRecord n) (λ n. text tree ≡ spelled n (usage tree)) (λ n. has_place depth after_extension n ≡ true) (λ n. IsRecord n (usage tree) (text tree) × (fits_at depth after_extension n ≡ true))
-    (λ n is spelling at. (record { spelling = spelling; fields = is.1; path = path_fits depth after_extension n at; usage_fits = small; shape = is.0 }, and_from (has_shape n) (has_place depth after_extension n) (shape_test n is.0) at))
+    (λ n is spelling at. (record { spelling = spelling; fields = is.1; path = path_fits depth after_extension n at; usage_fits = small; shape = is.0 }, and_from (has_shape n) (has_place depth after_extension n) (shape_only n is.0) at))
     sound (text-node_of tree) place
 
 -- ---- rows that stand below so many nibbles

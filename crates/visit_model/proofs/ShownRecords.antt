@@ -1,5 +1,5 @@
 -- A record is read as the node that it spells, and a branch that is read has no child at a number that is no nibble.
-use Rattle.std.proofs.Common.{◌≡◌, ℕ, ◌*◌, ◌/◌, ◌^◌, ◌<◌, ◌≤◌, ◌==◌, true, false, if◌then◌else◌, List, [], take, drop, Option, None, Some, Result, Ok, Err, IfOk, IsOkAnd, refl, sym, ◌∙◌, ap, arith, append-nil}
+use Rattle.std.proofs.Common.{◌≡◌, ℕ, ◌*◌, ◌/◌, ◌^◌, ◌<◌, ◌≤◌, ◌==◌, true, false, if◌then◌else◌, List, take, drop, Option, None, Some, Result, Ok, Err, IfOk, IsOkAnd, refl, ◌∙◌, ap, arith}
 use Rattle.std.specs.Prelude.{⊤}
 use Rattle.std.proofs.Math.Nat.{div-eq_of_lt}
 use Rattle.std.proofs.Math.Pow.{pow_mono}
@@ -7,11 +7,11 @@ use Rattle.std.proofs.lemmas.Bool.{ne_eqb}
 use Rattle.byte_model.specs.Node as node
 use Rattle.byte_model.specs.Node.{Node, ValueRef, spelled}
 use Rattle.byte_model.specs.Laws.{SameNode}
-use Rattle.record_model.specs.Fields.{start_of, ◌>>=◌, end_of}
-use Rattle.record_model.specs.Records.{RecordFault, shape, Layout, branch, IsRecord, bit, bits_below, child_in, has_shape, shaped, node_in, layout_at, layout_of, record_in}
-use Rattle.record_model.proofs.Layouts.{spelled_layout, FitsLayout, layout_again}
+use Rattle.record_model.specs.Fields.{◌>>=◌}
+use Rattle.record_model.specs.Records.{RecordFault, shape, Layout, branch, IsRecord, bit, bits_below, child_in, has_shape, shaped, node_in, layout_of, record_in}
+use Rattle.record_model.proofs.Layouts.{spelled_layout}
 use Rattle.record_model.proofs.Kids.{bitmap_of, digests_of, bitmap_of-fits}
-use Rattle.record_model.proofs.Nodes.{record_in-only}
+use Rattle.record_model.proofs.Nodes.{layout_only, record_in-only}
 
 -- at a number that is no nibble a branch has no child
 abbrev pub NoKidsPast : Node → Type 0
@@ -42,17 +42,10 @@ unfolding spelled node.spelled_children
 spelled-layout_from None kids usage = refl
 spelled-layout_from (Some value) kids usage = refl
 
-layout_of-again : (layout : Layout) (usage : ℕ) → FitsLayout layout → usage < 2 ^ 64 → layout_of (spelled_layout layout usage) ≡ Ok (layout, usage)
-unfolding layout_of end_of
-layout_of-again layout usage fits small =
-    let again = layout_again layout usage 0 [] fits small in
-    let all = ap (λ (bytes : List ℕ). layout_at (start_of bytes)) (sym (append-nil (spelled_layout layout usage))) ∙ again.1 in
-    rw all refl
-
 branch_layout : (value : Option ValueRef) (kids : ℕ → Option (List ℕ)) (usage : ℕ) (bytes : List ℕ) → IsRecord (node.branch value kids) usage bytes → layout_of bytes ≡ Ok (layout_from value kids, usage)
 branch_layout value kids usage bytes is =
     ap layout_of (is.spelling ∙ spelled-layout_from value kids usage)
-    ∙ layout_of-again (layout_from value kids) usage (is.fields.0, bitmap_of-fits kids is.fields.1) is.usage_fits
+    ∙ layout_only (layout_from value kids) usage (is.fields.0, bitmap_of-fits kids is.fields.1) is.usage_fits
 
 -- ---- what is read
 

@@ -1,6 +1,7 @@
 use Rattle.std.proofs.Common.{arith}
 use Rattle.std.proofs.lemmas.Grind.{common_steps}
-use Rattle.nibble_keys.proofs.PackedPaths.{packed-even, packed-odd}
+use Rattle.byte_model.proofs.Paths.{packed-even}
+use Rattle.nibble_keys.proofs.PackedPaths.{packed-odd}
 use Rattle.nibble_keys.proofs.packing.put_packed.Goals as goal
 use Rattle.nibble_keys.proofs.packing.put_packed.Goals.{then-leaf, else-leaf}
 

@@ -1,6 +1,7 @@
 use Rattle.std.proofs.Common.{drop, arith, sym, ◌∙◌, length-drop}
 use Rattle.std.proofs.lemmas.List.{take_rest}
-use Rattle.nibble_keys.proofs.NibbleLists.{length-view, length-nibbles}
+use Rattle.byte_model.proofs.Digits.{length-nibbles}
+use Rattle.nibble_keys.proofs.NibbleLists.{length-view}
 use Rattle.nibble_keys.proofs.CommonLengths.{common-whole, common-half}
 use Rattle.nibble_keys.proofs.nibbles.Nibbles.common.Goals as goal
 

@@ -1,4 +1,4 @@
--- A subtree with nibbles put before it.
+-- A trie with nibbles put before it.
 use Rattle.std.specs.Prelude.{ℕ, List, [], ◌∷◌, ◌++◌}
 use Rattle.trie_model.specs.Tree.{Tree, nothing, leaf, branch, extension}
 
