@@ -24,6 +24,10 @@ Keeps before after digest (Ok (Some text)) = IfSome after (λ now. IsSomeAnd bef
 Keeps before after digest (Ok None) = after ≡ before
 Keeps before after digest (Err fault) = after ≡ before
 
+-- Where the digests kept are told afterwards, they were told before and are the same.
+abbrev pub StaysKept : Option Digests → Option Digests → Type 0
+StaysKept before after = IfSome after (λ now. before ≡ Some now)
+
 -- What a load of a digest leaves of the store: it is alike, the load is counted, also where it answers a fault, and so is the fault.
 pub record Loaded {S A E : Type 0} (store : Store S) (old new : S) (digest : List ℕ) (result : Result (Option A) E) : Type 0 where
   pub same : store.alike old new

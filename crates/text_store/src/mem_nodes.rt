@@ -101,16 +101,20 @@ impl Texts for MemNodes {
 
 impl Nodes for MemNodes {
     ghost use Rattle.std.specs.Prelude.{unwrap_or};
-    ghost use Rattle.std.proofs.Common.{ap};
+    ghost use Rattle.std.proofs.Common.{ap, subst, sym};
+    ghost use Rattle.std.proofs.Math.Nat.{le_refl};
 
     ghost count_of = { count_in };
 
     ghost spare = { λ store. store.spare };
 
+    ghost load_room = { λ a b after. subst (λ s. a.spare ≤ s.spare) (sym after) (le_refl a.spare) };
+
     ghost alike_counts = { λ a b alike digest. ap (λ counts. unwrap_or (get counts digest) 0) alike.1 };
 
     fn reserve(&mut self, n: u64) -> Result<(), ReserveError>
         ensures room { OnOk result (n ≤ self.new.spare) }
+        ensures least_room { self.old.spare ≤ self.new.spare }
         ensures unchanged { IsUnchanged self.old.texts self.new.texts (count_in self.old) (count_in self.new) }
         ensures stored { IsStored self.old.texts (count_in self.old) }
         ensures loads { self.new.loads ≡ self.old.loads }
@@ -168,6 +172,7 @@ impl Nodes for MemNodes {
         requires { times ≤ count_in self.old d.now.0 }
         ensures ok { OnOk result (Releases self.old.texts self.new.texts (count_in self.old) (count_in self.new) d.now.0 times) }
         ensures err { OnErr result (IsUnchanged self.old.texts self.new.texts (count_in self.old) (count_in self.new)) }
+        ensures least_room { self.old.spare ≤ self.new.spare }
         ensures stored { IsStored self.old.texts (count_in self.old) }
         ensures loads { self.new.loads ≡ self.old.loads }
         ensures counted { IsCounted self.old.failing.faults self.new.failing.faults result }
