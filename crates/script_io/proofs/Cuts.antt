@@ -1,4 +1,4 @@
--- Where a line is cut, by the first place of a byte.
+-- Where a line is cut, at the first byte of a kind.
 use Rattle.std.proofs.Common.{◌≡◌, ℕ, ◌+◌, ◌-◌, ◌<◌, ◌≤◌, Bool, true, false, cond, ltb, List, [], ◌∷◌, length, take, drop, Some, None, refl, sym, ap, ◌∙◌, arith}
 use Rattle.std.specs.Prelude.{position}
 use Rattle.std.specs.List.{slice_split, position_or_len}
@@ -16,8 +16,8 @@ not_found false n e = refl
 pub past_end : (p : ℕ → Bool) (xs : List ℕ) → position p xs ≡ None → length xs ≤ position_or_len p xs
 past_end p xs e = ltb-false _ _ (not_found (ltb (position_or_len p xs) (length xs)) (position_or_len p xs) e)
 
-pub at_place : (p : ℕ → Bool) (xs : List ℕ) (i : ℕ) → position p xs ≡ Some i → (position_or_len p xs ≡ i) × (i < length xs)
-at_place p xs i e = let s = position-Some p xs i 0 e in (position_or_len_is p xs i 0 (omega (arith, s.0)) s.2 (λ _. s.1), s.0)
+pub at_position : (p : ℕ → Bool) (xs : List ℕ) (i : ℕ) → position p xs ≡ Some i → (position_or_len p xs ≡ i) × (i < length xs)
+at_position p xs i e = let s = position-Some p xs i 0 e in (position_or_len_is p xs i 0 (omega (arith, s.0)) s.2 (λ _. s.1), s.0)
 
 -- a list in which no element passes is one part
 pub slice_split-whole : (p : ℕ → Bool) (xs : List ℕ) → position p xs ≡ None → slice_split p xs ≡ xs ∷ []
@@ -28,5 +28,5 @@ slice_split-whole p xs e =
 -- the first part ends at the first element that passes
 pub slice_split-cut : (p : ℕ → Bool) (xs : List ℕ) (i : ℕ) → position p xs ≡ Some i → slice_split p xs ≡ take i xs ∷ slice_split p (take (length xs - (i + 1)) (drop (i + 1) xs))
 slice_split-cut p xs i e =
-    let at = at_place p xs i e in
+    let at = at_position p xs i e in
     slice_split_first p xs 0 (omega (arith, at.0, at.1)) ∙ ap (λ k. take k xs ∷ slice_split p (drop (k + 1) xs)) at.0 ∙ ap (λ (rest : List ℕ). take i xs ∷ slice_split p rest) (sym (take_rest xs (i + 1)))

@@ -1,7 +1,6 @@
-pub mod Putting
+pub mod Written
 pub mod Cuts
 pub mod Digits
 pub mod HexText
 pub mod Events
-pub mod Faults
-pub mod Finding
+pub mod FirstLine

@@ -1,6 +1,12 @@
+-- what reads and writes do to bytes that are told
 pub mod Streams
+-- sources and sinks in memory, as functions from state to state
 pub mod StreamStates
+-- what a sink in memory keeps to
 pub mod SinkRoom
-pub mod Meanings
-pub mod Reading
+-- what a reader of lines has, and what asking it for the next line makes of that
+pub mod LinesStates
+-- the window in which a line is looked for
 pub mod Windows
+-- commands, events and errors as the definitions have them
+pub mod Meanings

@@ -1,8 +1,8 @@
-ghost use Rattle.std.specs.Prelude.{◌≡◌, ◌≤◌, [], Err};
+ghost use Rattle.std.specs.Prelude.{◌≡◌, []};
 ghost use Rattle.std.specs.Borrow.{sem};
 ghost use Rattle.std.specs.Io.BufRead.{Rests};
-ghost use Rattle.base_core.specs.Faults.{Rose};
-ghost use Rattle.script_io.specs.Reading.{IsAsked};
+ghost use Rattle.base_core.specs.Faults.{faults_after};
+ghost use Rattle.script_io.specs.LinesStates.{IsAsked, ended_by};
 ghost use Rattle.script_io.specs.contracts.lines.Lines.{the_row};
 
 use crate::line_error::LineError;
@@ -23,9 +23,9 @@ pub struct Lines {
 
 impl Model for Lines {
     ghost use Rattle.std.specs.Prelude.{◌≤◌, drop};
-    ghost use Rattle.script_io.specs.Reading.{Reading, IsCount};
+    ghost use Rattle.script_io.specs.LinesStates.{LinesState, IsCount};
 
-    ghost Value = { Reading };
+    ghost Value = { LinesState };
 
     ghost view = { λ lines. record {
       pending = drop lines.window.start lines.window.bytes.items;
@@ -50,23 +50,23 @@ impl Lines {
         }
     }
 
-    /// The next line without its line feed, or nothing at the end of the input. A line is not handed
-    /// out where it has more than 8,400,000 bytes, or where byte number 2^30 + 1 of the input stands
-    /// in it.
+    /// The next line without its line feed, or nothing at the end of the input. A line that is too
+    /// long, or runs past what an input may have, is refused. After any refusal the line is still
+    /// there, and is asked for again by the next call.
     pub fn next<S: Source>(&mut self, source: &mut S) -> Result<Option<&[u8]>, LineError>
-        ensures no_fall { S.faults source.old ≤ S.faults source.new }
-        ensures rose { result ≡ Err LineError.ReadFault → Rose (S.faults source.old) (S.faults source.new) }
+        ensures counted { S.faults source.new ≡ faults_after (ended_by result) (S.faults source.old) }
         ensures* after { sem 𝓛 (Rests the_row self.entry (λ new. IsAsked self.old new (S.left source.old) (S.left source.new) result)) }
     {
         self.number = self.lines + 1;
         match self.window.find_line(source, self.before)? {
             None => Ok(None),
-            Some((size, feed)) => {
+            Some(span) => {
                 let from = self.window.start;
-                self.window.start = from + size + feed;
-                self.before += (size + feed) as u64;
+                let to = from + span.length;
+                self.window.start = to + span.feed;
+                self.before += (span.length + span.feed) as u64;
                 self.lines += 1;
-                Ok(Some(&self.window.bytes[from..from + size]))
+                Ok(Some(&self.window.bytes[from..to]))
             }
         }
     }

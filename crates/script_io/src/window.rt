@@ -1,12 +1,14 @@
 ghost use Rattle.std.specs.Prelude.{◌≡◌, ◌≢◌, ◌+◌, ◌<◌, ◌≤◌, ◌++◌, [], Some, Err, MatchOption, IfErr, IfOk, IfSome, OnOk, OnErr, length, take, drop, vec_len, vec_capacity};
 ghost use Rattle.std.specs.Option.{option_map};
-ghost use Rattle.base_core.specs.Faults.{Rose};
+ghost use Rattle.base_core.specs.Faults.{IsCounted, faults_after};
 ghost use Rattle.script_model.specs.Lines.{line_fault, longest_input};
-ghost use Rattle.script_io.specs.Windows.{Takes, Finds, IsBounded, error_of, judgement, place};
+ghost use Rattle.script_io.specs.LinesStates.{Extends, IsOpenAt, ended_by};
+ghost use Rattle.script_io.specs.Windows.{Takes, Finds, IsBounded, error_of, judgement_of, feed_index};
 
 use crate::line_error::LineError;
 use crate::source::Source;
-use crate::words::place_of;
+use crate::words::index_of;
+use base_core::Fault;
 use std::alloc::{AllocError, Global};
 
 // How many bytes are asked for in a read.
@@ -23,6 +25,13 @@ pub struct Window {
     pub start: usize,
     pub piece: Vec<u8>,
     ghost within: { start ≤ length bytes.items },
+}
+
+/// A line of so many bytes, which one line feed or none ends.
+#[derive(Clone, Copy, Debug)]
+pub struct LineSpan {
+    pub length: usize,
+    pub feed: usize,
 }
 
 impl Window {
@@ -67,8 +76,7 @@ impl Window {
         ensures kept { take (length (drop self.old.start self.old.bytes.items)) self.new.bytes.items ≡ drop self.old.start self.old.bytes.items }
         ensures err { OnErr result (self.new.bytes.items ≡ drop self.old.start self.old.bytes.items) }
         ensures left { OnErr result (IfSome (S.left source.old) (λ left. S.left source.new ≡ Some left)) }
-        ensures no_fall { S.faults source.old ≤ S.faults source.new }
-        ensures rose { result ≡ Err LineError.ReadFault → Rose (S.faults source.old) (S.faults source.new) }
+        ensures counted { S.faults source.new ≡ faults_after (ended_by result) (S.faults source.old) }
         ensures no_fault { (result ≢ Err LineError.Long) × (result ≢ Err LineError.Past) }
     {
         self.compact();
@@ -78,41 +86,46 @@ impl Window {
         if self.bytes.reserve(PIECE).is_err() {
             return Err(LineError::NoMemory);
         }
-        take_piece(source, &mut self.piece, &mut self.bytes)
+        match take_piece(source, &mut self.piece, &mut self.bytes) {
+            Ok(n) => Ok(n),
+            Err(Fault) => Err(LineError::ReadFault),
+        }
     }
 
-    /// The place of the first line feed, where none stands among the first `scanned` bytes.
+    /// The index of the first line feed, where none stands among the first `scanned` bytes.
     fn line_end(&self, scanned: usize) -> Option<usize>
-        requires { scanned ≤ place (drop self.now.start self.now.bytes.items) }
+        requires { scanned ≤ feed_index (drop self.now.start self.now.bytes.items) }
         ensures { MatchOption result
-            (length (drop self.now.start self.now.bytes.items) ≤ place (drop self.now.start self.now.bytes.items))
-            (λ n. (n < length (drop self.now.start self.now.bytes.items)) × (place (drop self.now.start self.now.bytes.items) ≡ n)) }
+            (length (drop self.now.start self.now.bytes.items) ≤ feed_index (drop self.now.start self.now.bytes.items))
+            (λ n. (n < length (drop self.now.start self.now.bytes.items)) × (feed_index (drop self.now.start self.now.bytes.items) ≡ n)) }
     {
         let (_, rest) = self.pending().split_at(scanned);
-        match place_of(rest, b'\n') {
+        match index_of(rest, b'\n') {
             Some(more) => Some(scanned + more),
             None => None,
         }
     }
 
-    /// Reads on until the first line is whole, and answers how many bytes it has and how many line
-    /// feeds end it; or nothing, where nothing is left. `before` bytes of the input came before it.
+    /// Reads on until the first line is whole, and answers where it ends; or nothing, where nothing is
+    /// left. `before` bytes of the input came before it. It hands out no byte.
     pub fn find_line<S: Source>(
         &mut self,
         source: &mut S,
         before: u64,
-    ) -> Result<Option<(usize, usize)>, LineError>
+    ) -> Result<Option<LineSpan>, LineError>
         requires { before ≤ longest_input }
         ensures finds { IfSome (S.left source.old) (λ left. Finds (drop self.old.start self.old.bytes.items ++ left) before
             (drop self.new.start self.new.bytes.items) (S.left source.new) result) }
-        ensures fits { IfOk result (λ found. IfSome found (λ line. IsBounded before (drop self.new.start self.new.bytes.items) line.0 line.1)) }
-        ensures no_fall { S.faults source.old ≤ S.faults source.new }
-        ensures rose { result ≡ Err LineError.ReadFault → Rose (S.faults source.old) (S.faults source.new) }
+        ensures extends { Extends (drop self.old.start self.old.bytes.items) (S.left source.old)
+            (drop self.new.start self.new.bytes.items) (S.left source.new) }
+        ensures undecided { IfErr result (λ error. IsOpenAt error before (drop self.new.start self.new.bytes.items)) }
+        ensures fits { IfOk result (λ found. IfSome found (λ span. IsBounded before (drop self.new.start self.new.bytes.items) span)) }
+        ensures counted { S.faults source.new ≡ faults_after (ended_by result) (S.faults source.old) }
     {
         let mut scanned = 0;
         loop {
-            if let Some(size) = self.line_end(scanned) {
-                return judged(before, size, 1);
+            if let Some(length) = self.line_end(scanned) {
+                return judged(before, LineSpan { length, feed: 1 });
             }
             scanned = self.pending().len();
             if let Some(error) = fault(before, scanned as u64, 0) {
@@ -122,7 +135,10 @@ impl Window {
                 return Ok(if scanned == 0 {
                     None
                 } else {
-                    Some((scanned, 0))
+                    Some(LineSpan {
+                        length: scanned,
+                        feed: 0,
+                    })
                 });
             }
         }
@@ -130,10 +146,10 @@ impl Window {
 }
 
 // Makes a buffer so long.
-fn widen(buffer: &mut Vec<u8>, size: usize) -> Result<(), AllocError>
-    ensures { OnOk result (vec_len buffer.new ≡ size) }
+fn widen(buffer: &mut Vec<u8>, count: usize) -> Result<(), AllocError>
+    ensures { OnOk result (vec_len buffer.new ≡ count) }
 {
-    buffer.resize(size, 0)
+    buffer.resize(count, 0)
 }
 
 // Reads a piece and puts it behind the bytes that came before, for which there is room.
@@ -141,7 +157,7 @@ fn take_piece<S: Source>(
     source: &mut S,
     piece: &mut [u8],
     bytes: &mut Vec<u8>,
-) -> Result<usize, LineError>
+) -> Result<usize, Fault>
     requires piece { 0 < length piece.old }
     requires room { vec_len bytes.old + length piece.old ≤ vec_capacity bytes.old }
     ensures takes { IfOk result (λ n. IfSome (S.left source.old) (λ left. Takes left (S.left source.new) bytes.old.items bytes.new.items n)) }
@@ -150,40 +166,36 @@ fn take_piece<S: Source>(
     ensures kept { take (length bytes.old.items) bytes.new.items ≡ bytes.old.items }
     ensures err { OnErr result (bytes.new.items ≡ bytes.old.items) }
     ensures left { OnErr result (IfSome (S.left source.old) (λ left. S.left source.new ≡ Some left)) }
-    ensures no_fall { S.faults source.old ≤ S.faults source.new }
-    ensures rose { result ≡ Err LineError.ReadFault → Rose (S.faults source.old) (S.faults source.new) }
-    ensures cause { IfErr result (λ error. error ≡ LineError.ReadFault) }
+    ensures counted { IsCounted (S.faults source.old) (S.faults source.new) result }
 {
-    let Ok(n) = source.read(piece) else {
-        return Err(LineError::ReadFault);
-    };
+    let n = source.read(piece)?;
     let _ = bytes.extend_from_slice(&piece[..n]);
     Ok(n)
 }
 
 // Why a line is not read that begins behind `before` bytes and has so many bytes and line feeds.
-fn fault(before: u64, size: u64, feed: u64) -> Option<LineError>
+fn fault(before: u64, length: u64, feed: u64) -> Option<LineError>
     requires before { before ≤ longest_input }
     requires feed { feed ≤ 1 }
-    ensures { result ≡ option_map error_of (line_fault before size feed) }
+    ensures { result ≡ option_map error_of (line_fault before length feed) }
 {
-    if size > LONGEST_LINE && before + LONGEST_LINE <= LONGEST_INPUT {
+    if length > LONGEST_LINE && before + LONGEST_LINE <= LONGEST_INPUT {
         Some(LineError::Long)
-    } else if size >= LONGEST_INPUT - before + 1 - feed {
+    } else if length >= LONGEST_INPUT - before + 1 - feed {
         Some(LineError::Past)
     } else {
         None
     }
 }
 
-// A line of so many bytes and line feeds, or why it is not read.
-fn judged(before: u64, size: usize, feed: usize) -> Result<Option<(usize, usize)>, LineError>
+// A line that begins behind `before` bytes, or why it is not read.
+fn judged(before: u64, span: LineSpan) -> Result<Option<LineSpan>, LineError>
     requires before { before ≤ longest_input }
-    requires feed { feed ≤ 1 }
-    ensures { result ≡ judgement before size feed }
+    requires feed { span.feed ≤ 1 }
+    ensures { result ≡ judgement_of before span }
 {
-    match fault(before, size as u64, feed as u64) {
+    match fault(before, span.length as u64, span.feed as u64) {
         Some(error) => Err(error),
-        None => Ok(Some((size, feed))),
+        None => Ok(Some(span)),
     }
 }

@@ -2,10 +2,10 @@ ghost use Rattle.std.specs.Prelude.{◌≡◌, ◌==◌, ◌<◌, ◌∷◌, [],
 ghost use Rattle.std.specs.List.{slice_split};
 ghost use Rattle.script_model.specs.Lines.{is_space};
 
-/// The first place of a byte.
-pub(crate) fn place_of(bytes: &[u8], byte: u8) -> Option<usize>
+/// The index of the first such byte.
+pub(crate) fn index_of(bytes: &[u8], byte: u8) -> Option<usize>
     ensures first { result ≡ position (λ b. b == byte) bytes.now }
-    ensures within { IfSome result (λ place. place < length bytes.now) }
+    ensures within { IfSome result (λ index. index < length bytes.now) }
 {
     bytes.iter().position(|b| *b == byte)
 }
@@ -15,8 +15,8 @@ pub(crate) fn cut_word(line: &[u8]) -> Option<(&[u8], &[u8])>
     ensures { MatchOption result (slice_split is_space line.now ≡ line.now ∷ [])
         (λ cut. slice_split is_space line.now ≡ cut.0.now ∷ slice_split is_space cut.1.now) }
 {
-    match place_of(line, b' ') {
-        Some(place) => Some((&line[..place], &line[place + 1..])),
+    match index_of(line, b' ') {
+        Some(index) => Some((&line[..index], &line[index + 1..])),
         None => None,
     }
 }

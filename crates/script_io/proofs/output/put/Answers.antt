@@ -1,5 +1,5 @@
 use Rattle.std.proofs.Common.{arith}
-use Rattle.script_io.proofs.Putting.{Sent-taken}
+use Rattle.script_io.proofs.Written.{Sent-taken}
 use Rattle.script_io.proofs.output.put.Goals as goal
 
 pub loop-rest-preserved : goal.loop-rest-preserved

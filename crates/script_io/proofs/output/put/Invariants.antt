@@ -1,5 +1,5 @@
 use Rattle.std.proofs.Common.{◌≤◌, length}
-use Rattle.script_io.proofs.Putting.{Sent}
+use Rattle.script_io.proofs.Written.{Sent}
 use Rattle.script_io.proofs.output.put.Given as goal
 
 abbrev pub invariant-loop-rest : goal.invariant-loop-rest

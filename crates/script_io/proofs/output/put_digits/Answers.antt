@@ -1,7 +1,7 @@
 use Rattle.std.proofs.Common.{arith, sym}
 use Rattle.std.proofs.lemmas.List.{take-append-drop}
 use Rattle.hex.specs.Hex.{encode_lower}
-use Rattle.script_io.proofs.Putting.{in_digits, Sent-init, Sent-more, Sent-prefix}
+use Rattle.script_io.proofs.Written.{in_digits, Sent-init, Sent-more, Sent-prefix}
 use Rattle.script_io.proofs.output.put_digits.Goals as goal
 
 pub loop-rest-init : goal.loop-rest-init

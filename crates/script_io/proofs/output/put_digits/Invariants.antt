@@ -1,6 +1,6 @@
 use Rattle.std.proofs.Common.{◌≤◌, length}
 use Rattle.hex.specs.Hex.{encode_lower}
-use Rattle.script_io.proofs.Putting.{Sent}
+use Rattle.script_io.proofs.Written.{Sent}
 use Rattle.script_io.proofs.output.put_digits.Given as goal
 
 abbrev pub invariant-loop-rest : goal.invariant-loop-rest
