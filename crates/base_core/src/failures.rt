@@ -1,5 +1,6 @@
 ghost use Rattle.std.specs.Prelude.{◌≡◌, IfOk, IsErr, IsTrue, ◌↔◌};
 ghost use Rattle.base_core.specs.Failing.{fails_next, after_call};
+ghost use Rattle.base_core.specs.Faults.{risen};
 
 use crate::fault::Fault;
 use std::alloc::{AllocError, Global};
@@ -42,9 +43,16 @@ impl Failures {
     {
         self.calls = self.calls.saturating_add(1);
         if self.fails.contains(&self.calls) {
-            self.faults = self.faults.saturating_add(1);
+            self.count();
             return Err(Fault);
         }
         Ok(())
+    }
+
+    /// Counts a fault of the object's own, at a call whose number is not on the list.
+    pub fn count(&mut self)
+        ensures { self.new ≡ record self.old { faults = risen self.old.faults 1 } }
+    {
+        self.faults = self.faults.saturating_add(1);
     }
 }

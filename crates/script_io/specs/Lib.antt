@@ -4,6 +4,8 @@ pub mod Streams
 pub mod StreamStates
 -- what a sink in memory keeps to
 pub mod SinkRoom
+-- what readers and writers of std tell
+pub mod StdStreams
 -- what a reader of lines has, and what asking it for the next line makes of that
 pub mod LinesStates
 -- the window in which a line is looked for

@@ -1,5 +1,5 @@
 -- The window on an input: the bytes that came and are not handed out.
-use Rattle.std.specs.Prelude.{◌≡◌, ◌≢◌, ℕ, ◌+◌, ◌<◌, ◌≤◌, List, [], ◌++◌, length, take, drop, Option, None, Some, IfSome, Result, Ok, Err}
+use Rattle.std.specs.Prelude.{◌≡◌, ◌≢◌, ℕ, ◌+◌, ◌<◌, ◌≤◌, List, [], ◌++◌, length, take, drop, Option, None, Some, Result, Ok, Err}
 use Rattle.std.specs.List.{position_or_len}
 use Rattle.script_model.specs.Lines.{is_line_feed, long, past, first_line, first_feed, first_fault, behind_line, line_fault, LineFault, longest_input}
 use Rattle.script_io.specs.declared.line_error.LineError.{LineError}

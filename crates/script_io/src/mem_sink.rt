@@ -1,10 +1,10 @@
-ghost use Rattle.std.specs.Prelude.{◌≡◌, ◌≤◌, [], IfOk, IsErr, IsTrue, ◌↔◌, length, Some};
+ghost use Rattle.std.specs.Prelude.{◌≡◌, ◌≤◌, [], IfOk, IsErr, IsTrue, ◌↔◌, Some};
 ghost use Rattle.base_core.specs.Faults.{IsCounted};
 ghost use Rattle.script_io.specs.Streams.{IsTaken, Writes};
 ghost use Rattle.script_io.specs.StreamStates.{SinkState, refuses, taken, after_write};
 
 use crate::sink::Sink;
-use base_core::Fault;
+use base_core::{Failures, Fault};
 use std::alloc::{AllocError, Global};
 use std::marker::Model;
 
@@ -15,13 +15,11 @@ pub struct MemSink {
     bytes: Vec<u8>,
     most: u64,
     piece: u64,
-    fails: Vec<u64>,
-    calls: u64,
-    faults: u64,
+    failures: Failures,
 }
 
 impl Model for MemSink {
-    ghost use Rattle.std.specs.Prelude.{◌≤◌, length, vec_capacity};
+    ghost use Rattle.std.specs.Prelude.{length, vec_capacity};
     ghost use Rattle.script_io.specs.StreamStates.{SinkState};
     ghost use Rattle.script_io.specs.SinkRoom.{HasRoom};
 
@@ -31,9 +29,7 @@ impl Model for MemSink {
       bytes = sink.bytes.items;
       most = sink.most;
       piece = sink.piece;
-      fails = sink.fails.items;
-      calls = sink.calls;
-      faults = sink.faults;
+      failing = sink.failures;
     } };
 
     ghost invariant = { λ sink. HasRoom (length sink.bytes.items) (vec_capacity sink.bytes) sink.most sink.piece };
@@ -45,15 +41,13 @@ impl MemSink {
     /// whose numbers are in `fails` answer a fault.
     pub fn new(alloc: Global, most: u64, piece: u64, fails: &[u64]) -> Result<MemSink, AllocError>
         requires { 1 ≤ piece }
-        ensures { IfOk result (λ sink. sink ≡ record { bytes = []; most = most; piece = piece; fails = fails.now; calls = 0; faults = 0 }) }
+        ensures { IfOk result (λ sink. sink ≡ record { bytes = []; most = most; piece = piece; failing = record { fails = fails.now; calls = 0; faults = 0 } }) }
     {
         Ok(MemSink {
             bytes: Vec::with_capacity(alloc, most as usize)?,
             most,
             piece,
-            fails: Vec::from_slice(alloc, fails)?,
-            calls: 0,
-            faults: 0,
+            failures: Failures::new(alloc, fails)?,
         })
     }
 
@@ -70,21 +64,21 @@ impl Sink for MemSink {
 
     ghost written = { λ sink. Some sink.bytes };
 
-    ghost faults = { λ sink. sink.faults };
+    ghost faults = { λ sink. sink.failing.faults };
 
     fn write(&mut self, piece: &[u8]) -> Result<usize, Fault>
         ensures taken { IfOk result (IsTaken piece.now) }
         ensures bytes { Writes self.old.bytes (Some self.new.bytes) piece.now result }
-        ensures counted { IsCounted self.old.faults self.new.faults result }
+        ensures counted { IsCounted self.old.failing.faults self.new.failing.faults result }
         ensures fails { IsErr result ↔ IsTrue (refuses self.old piece.now) }
         ensures takes { IfOk result (λ n. n ≡ taken self.old piece.now) }
         ensures after { self.new ≡ after_write self.old piece.now }
     {
-        self.calls = self.calls.saturating_add(1);
+        self.failures.call()?;
         let room = self.most - self.bytes.len() as u64;
         let n = (piece.len() as u64).min(room).min(self.piece) as usize;
-        if self.fails.contains(&self.calls) || (n == 0 && !piece.is_empty()) {
-            self.faults = self.faults.saturating_add(1);
+        if n == 0 && !piece.is_empty() {
+            self.failures.count();
             return Err(Fault);
         }
         let _ = self.bytes.extend_from_slice(&piece[..n]);

@@ -1,10 +1,11 @@
-ghost use Rattle.std.specs.Prelude.{◌≡◌, ◌≤◌, ◌++◌, IfOk, IsErr, IsTrue, ◌↔◌, length, take, drop};
+ghost use Rattle.std.specs.Prelude.{◌≡◌, ◌≤◌, IfOk, IsErr, IsTrue, ◌↔◌, length};
 ghost use Rattle.base_core.specs.Faults.{IsCounted};
+ghost use Rattle.base_core.specs.Failing.{fails_next};
 ghost use Rattle.script_io.specs.Streams.{Reads};
-ghost use Rattle.script_io.specs.StreamStates.{SourceState, fails_next, given, after_read};
+ghost use Rattle.script_io.specs.StreamStates.{SourceState, given, after_read};
 
 use crate::source::Source;
-use base_core::Fault;
+use base_core::{Failures, Fault};
 use std::alloc::{AllocError, Global};
 use std::marker::Model;
 
@@ -13,11 +14,9 @@ use std::marker::Model;
 #[derive(Debug, Drop)]
 pub struct MemSource {
     bytes: Vec<u8>,
-    place: usize,
+    offset: usize,
     piece: u64,
-    fails: Vec<u64>,
-    calls: u64,
-    faults: u64,
+    failures: Failures,
 }
 
 impl Model for MemSource {
@@ -27,14 +26,12 @@ impl Model for MemSource {
     ghost Value = { SourceState };
 
     ghost view = { λ source. record {
-      left = drop source.place source.bytes.items;
+      left = drop source.offset source.bytes.items;
       piece = source.piece;
-      fails = source.fails.items;
-      calls = source.calls;
-      faults = source.faults;
+      failing = source.failures;
     } };
 
-    ghost invariant = { λ source. (source.place ≤ length source.bytes.items) × (1 ≤ source.piece) };
+    ghost invariant = { λ source. (source.offset ≤ length source.bytes.items) × (1 ≤ source.piece) };
 }
 
 impl MemSource {
@@ -47,15 +44,13 @@ impl MemSource {
         fails: &[u64],
     ) -> Result<MemSource, AllocError>
         requires { 1 ≤ piece }
-        ensures { IfOk result (λ source. source ≡ record { left = bytes.now; piece = piece; fails = fails.now; calls = 0; faults = 0 }) }
+        ensures { IfOk result (λ source. source ≡ record { left = bytes.now; piece = piece; failing = record { fails = fails.now; calls = 0; faults = 0 } }) }
     {
         Ok(MemSource {
             bytes: Vec::from_slice(alloc, bytes)?,
-            place: 0,
+            offset: 0,
             piece,
-            fails: Vec::from_slice(alloc, fails)?,
-            calls: 0,
-            faults: 0,
+            failures: Failures::new(alloc, fails)?,
         })
     }
 }
@@ -65,25 +60,21 @@ impl Source for MemSource {
 
     ghost left = { λ source. Some source.left };
 
-    ghost faults = { λ source. source.faults };
+    ghost faults = { λ source. source.failing.faults };
 
     fn read(&mut self, into: &mut [u8]) -> Result<usize, Fault>
         ensures fits { IfOk result (λ n. n ≤ length into.old) }
         ensures bytes { Reads self.old.left (Some self.new.left) (length into.old) into.new result }
-        ensures counted { IsCounted self.old.faults self.new.faults result }
-        ensures fails { IsErr result ↔ IsTrue (fails_next self.old.fails self.old.calls) }
+        ensures counted { IsCounted self.old.failing.faults self.new.failing.faults result }
+        ensures fails { IsErr result ↔ IsTrue (fails_next self.old.failing) }
         ensures gives { IfOk result (λ n. n ≡ given self.old (length into.old)) }
         ensures after { self.new ≡ after_read self.old (length into.old) }
     {
-        self.calls = self.calls.saturating_add(1);
-        if self.fails.contains(&self.calls) {
-            self.faults = self.faults.saturating_add(1);
-            return Err(Fault);
-        }
-        let left = &self.bytes[self.place..];
+        self.failures.call()?;
+        let left = &self.bytes[self.offset..];
         let n = (into.len() as u64).min(self.piece).min(left.len() as u64) as usize;
         into[..n].copy_from_slice(&left[..n]);
-        self.place += n;
+        self.offset += n;
         Ok(n)
     }
 }

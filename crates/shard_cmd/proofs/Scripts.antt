@@ -21,9 +21,9 @@ use Rattle.base_core.specs.PairMaps.{PairMap, laid, refusal}
 use Rattle.script_io.specs.declared.event.Event.{Event}
 use Rattle.script_io.specs.declared.line_error.LineError.{LineError}
 use Rattle.script_io.specs.declared.line_error.LineError.TheVariants.{Long, Past}
-use Rattle.script_io.specs.Reading.{Reading, IsAsked}
+use Rattle.script_io.specs.LinesStates.{LinesState as Reading, IsAsked}
 use Rattle.script_io.specs.Meanings.{event}
-use Rattle.script_io.proofs.Faults.{fault-none}
+use Rattle.script_model.proofs.LineFaults.{fault-none}
 use Rattle.shard_cmd.specs.declared.events.Stop.TheVariants.{Syntax}
 use Rattle.shard_cmd.specs.declared.reply.Reply.{Reply}
 use Rattle.shard_cmd.specs.declared.status.Status.TheVariants.{Done}

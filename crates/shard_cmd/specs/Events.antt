@@ -8,7 +8,7 @@ use Rattle.output_model.specs.Ends.{Output, syntax_at, full_pairs}
 use Rattle.output_model.specs.Root.{root_done}
 use Rattle.trie_model.specs.State.{State, IsPair}
 use Rattle.script_io.specs.declared.event.Event.{Event}
-use Rattle.script_io.specs.Reading.{Reading}
+use Rattle.script_io.specs.LinesStates.{LinesState as Reading}
 use Rattle.script_io.specs.Meanings.{event}
 use Rattle.shard_cmd.specs.declared.events.Stop.{Stop}
 use Rattle.shard_cmd.specs.declared.events.Stop.TheVariants.{Syntax, ReadFault, NoMemory}

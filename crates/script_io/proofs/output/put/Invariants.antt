@@ -1,11 +1,11 @@
-use Rattle.std.proofs.Common.{◌≤◌, length}
+use Rattle.std.proofs.Common.{◌≡◌, length}
 use Rattle.script_io.proofs.Written.{Sent}
 use Rattle.script_io.proofs.output.put.Given as goal
 
 abbrev pub invariant-loop-rest : goal.invariant-loop-rest
 invariant-loop-rest g l = record {
   sent : Sent (λ bytes. bytes) (g.K.Sink.written l.fn.sink) (g.K.Sink.written l.sink) l.bytes l.rest;
-  no_fall : g.K.Sink.faults l.fn.sink ≤ g.K.Sink.faults l.sink;
+  faults : g.K.Sink.faults l.sink ≡ g.K.Sink.faults l.fn.sink;
 }
 
 abbrev pub decreases-loop-rest : goal.decreases-loop-rest

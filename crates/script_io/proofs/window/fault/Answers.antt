@@ -1,4 +1,4 @@
-use Rattle.std.proofs.Common.{◌⊎◌, ◌≤◌, ◌<◌, ◌+◌, sym, ap, arith, inl, inr}
+use Rattle.std.proofs.Common.{sym, ap, arith, inl, inr}
 use Rattle.std.specs.Option.{option_map}
 use Rattle.script_model.proofs.LineFaults.{IsNotLong, fault-long, fault-past, fault-none}
 use Rattle.script_io.specs.Windows.{error_of}

@@ -1,5 +1,5 @@
-use Rattle.std.proofs.Common.{◌∙◌, sym, ℕ, length, drop, ap, arith}
-use Rattle.script_io.proofs.FirstLine.{fed, unfed, finds_fed, bounds_fed, open_judged, counted_judged, finds_fault, open_fault, counted_fault, last_line, last_bounds, open_failed, fill_falls, scanned-filled, Extends-filled, Extends-failed}
+use Rattle.std.proofs.Common.{◌∙◌, sym, ℕ, length, drop, ap}
+use Rattle.script_io.proofs.FirstLine.{fed, finds_fed, bounds_fed, open_judged, counted_judged, finds_fault, open_fault, counted_fault, last_line, last_bounds, open_failed, fill_falls, scanned-filled, Extends-filled}
 use Rattle.script_io.proofs.window.Window.find_line.Goals as goal
 
 pub returns-in-Some-clause-finds : goal.returns-in-Some-clause-finds
