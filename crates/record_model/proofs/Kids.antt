@@ -1,5 +1,7 @@
 -- A bitmap and the digests behind it are the children of a branch, and those children's bitmap and digests are the same again.
-use Rattle.std.proofs.Common.{◌≡◌, ℕ, zero, suc, ◌+◌, ◌*◌, ◌%◌, ◌^◌, ◌<◌, ◌≤◌, ◌==◌, Bool, true, false, cond, if◌then◌else◌, List, ◌++◌, length, take, drop, Option, None, Some, IfSome, is_some, ◌⊎◌, inl, inr, refl, sym, ◌∙◌, ap, ap₂, subst, arith, mod-eq_of_lt, take-add, append-nil, length-append, length-take, length-drop}
+use Rattle.std.proofs.Common.{◌≡◌, ℕ, zero, suc, ◌+◌, ◌*◌, ◌/◌, ◌%◌, ◌^◌, ◌<◌, ◌≤◌, ◌==◌, Bool, true, false, cond, if◌then◌else◌, List, ◌++◌, length, take, drop, Option, None, Some, IfSome, is_some, ◌⊎◌, inl, inr, refl, sym, ◌∙◌, ap, ap₂, subst, arith, mod-eq_of_lt, take-add, append-nil, length-append, length-take, length-drop}
+use Rattle.std.proofs.Math.Nat.{div-eq_of_lt}
+use Rattle.std.proofs.Math.Pow.{pow_mono}
 use Rattle.std.proofs.lemmas.Bool.{cases_lt, cases_eq, eq-eqb, ne_eqb, eqb-true, eqb-false}
 use Rattle.std.proofs.lemmas.List.{take_all}
 use Rattle.std.proofs.lemmas.Nat.{mod-pow-add, mod_below, pow_pos}
@@ -65,6 +67,13 @@ child_set bitmap digests i e = ap (λ b. cond b (Some (take 32 (drop (32 * bits_
 
 child_clear : (bitmap : ℕ) (digests : List ℕ) (i : ℕ) → (bit bitmap i == 1) ≡ false → child_in bitmap digests i ≡ None
 child_clear bitmap digests i e = ap (λ b. cond b (Some (take 32 (drop (32 * bits_below bitmap i) digests))) None) e
+
+-- no bit past the sixteenth is set
+pub child_in-past : (bitmap : ℕ) (digests : List ℕ) → bitmap < 2 ^ 16 → (x : ℕ) → 16 ≤ x → child_in bitmap digests x ≡ None
+child_in-past bitmap digests small x past =
+    let power : 2 ^ 16 ≤ 2 ^ x = pow_mono past in
+    let none : bitmap / 2 ^ x ≡ 0 = div-eq_of_lt (omega arith) in
+    child_clear bitmap digests x (ne_eqb (bit bitmap x) 1 (λ e. omega arith))
 
 bitmap_back : (bitmap : ℕ) (digests : List ℕ) (n : ℕ) → sum_below (child_bit (child_in bitmap digests)) n ≡ bitmap % 2 ^ n
 unfolding sum_below

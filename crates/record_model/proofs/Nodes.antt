@@ -11,11 +11,11 @@ use Rattle.byte_model.specs.Laws.{FitsRecord, SameNode}
 use Rattle.byte_model.proofs.Spellings.{spelled-same}
 use Rattle.record_model.specs.Fields.{FrameFault, Cursor, start_of, end_of}
 use Rattle.record_model.specs.Paths.{PathFault, path_in}
-use Rattle.record_model.specs.Records.{Layout, leaf, branch, extension, layout_at, layout_of, child_in, has_shape, shaped, suited, node_in, record_in, HasShortPath, IsRecord}
+use Rattle.record_model.specs.Records.{Layout, leaf, branch, extension, layout_at, layout_of, child_in, has_shape, shaped, suited, node_in, record_in, HasShortPath, HasNibblesOnly, IsRecord}
 use Rattle.record_model.proofs.Steps.{Gives, gives, and_then, by_test}
 use Rattle.record_model.proofs.PackedPaths.{path_in-found, path_in-only}
 use Rattle.record_model.proofs.Layouts.{spelled_layout, FitsLayout, HasPathBytes, layout_taken, layout_again}
-use Rattle.record_model.proofs.Kids.{bitmap_of, digests_of, bitmap_of-fits, child_in-digest, child_in-again, spelled_children-child_in, child_count-same}
+use Rattle.record_model.proofs.Kids.{bitmap_of, digests_of, bitmap_of-fits, child_in-digest, child_in-past, child_in-again, spelled_children-child_in, child_count-same}
 
 -- ---- the layout of all the bytes
 
@@ -83,10 +83,11 @@ record IsNodeOf (layout : Layout) (n : Node) : Type 0 where
   pub fields : FitsRecord n
   pub path : HasShortPath n
   pub shape : IsShaped n
+  pub nibbles : HasNibblesOnly n
 
-shaped_found : (layout : Layout) (n : Node) → ((usage : ℕ) → spelled_layout layout usage ≡ spelled n usage) → FitsRecord n → HasShortPath n → Gives (shaped n) (IsNodeOf layout)
+shaped_found : (layout : Layout) (n : Node) → ((usage : ℕ) → spelled_layout layout usage ≡ spelled n usage) → FitsRecord n → HasShortPath n → HasNibblesOnly n → Gives (shaped n) (IsNodeOf layout)
 unfolding shaped
-shaped_found layout n spelling fields path = by_test (has_shape n) (λ e. gives _ (record { spelling = spelling; fields = fields; path = path; shape = shape_found n e })) (λ _. record { given = tt })
+shaped_found layout n spelling fields path nibbles = by_test (has_shape n) (λ e. gives _ (record { spelling = spelling; fields = fields; path = path; shape = shape_found n e; nibbles = nibbles })) (λ _. record { given = tt })
 
 node_found : (layout : Layout) → FitsLayout layout → HasPathBytes layout → Gives (node_in layout) (IsNodeOf layout)
 unfolding node_in spelled
@@ -94,22 +95,26 @@ node_found (leaf bytes value) fits small = and_then (suited_found true bytes sma
     shaped_found (leaf bytes value) (node.leaf path value)
     (λ usage. ap (λ bytes. spelled_layout (leaf bytes value) usage) h.1)
     (h.0, fits.1)
-    (subst (λ bytes. length bytes < 2 ^ 32) h.1 fits.0))
+    (subst (λ bytes. length bytes < 2 ^ 32) h.1 fits.0)
+    tt)
 node_found (branch None bitmap digests) fits small =
     shaped_found (branch None bitmap digests) (node.branch None (child_in bitmap digests))
     (λ usage. ap (λ (kids : List ℕ). 1 ∷ (kids ++ borsh_u64 usage)) (sym (spelled_children-child_in bitmap digests fits.1)))
     (tt, child_in-digest bitmap digests fits.1)
     tt
+    (child_in-past bitmap digests fits.1.0)
 node_found (branch (Some value) bitmap digests) fits small =
     shaped_found (branch (Some value) bitmap digests) (node.branch (Some value) (child_in bitmap digests))
     (λ usage. ap (λ (kids : List ℕ). 2 ∷ ((spelled_value value ++ kids) ++ borsh_u64 usage)) (sym (spelled_children-child_in bitmap digests fits.1)))
     (fits.0, child_in-digest bitmap digests fits.1)
     tt
+    (child_in-past bitmap digests fits.1.0)
 node_found (extension bytes child) fits small = and_then (suited_found false bytes small) (λ path h.
     shaped_found (extension bytes child) (node.extension path child)
     (λ usage. ap (λ bytes. spelled_layout (extension bytes child) usage) h.1)
     (h.0, fits.1)
-    (subst (λ bytes. length bytes < 2 ^ 32) h.1 fits.0))
+    (subst (λ bytes. length bytes < 2 ^ 32) h.1 fits.0)
+    tt)
 
 -- the fields of a node's record
 abbrev layout_from : Node → Layout
@@ -133,30 +138,30 @@ spelled_layout-from (node.extension path child) usage = refl
 abbrev children_again : (ℕ → Option (List ℕ)) → ℕ → Option (List ℕ)
 children_again kids = child_in (bitmap_of kids) (digests_of kids)
 
-node_only : (n : Node) → FitsRecord n → IsShaped n → (m : Node) × (node_in (layout_from n) ≡ Ok m) × SameNode m n
+node_only : (n : Node) → FitsRecord n → IsShaped n → (m : Node) × (node_in (layout_from n) ≡ Ok m) × SameNode m n × HasNibblesOnly m
 unfolding node_in shaped
 node_only (node.leaf path value) fields shape =
-    (node.leaf path value, rw (suited_only true path fields.0, shape_only (node.leaf path value) shape) refl, (refl, refl))
+    (node.leaf path value, rw (suited_only true path fields.0, shape_only (node.leaf path value) shape) refl, (refl, refl), tt)
 node_only (node.branch None kids) fields shape =
     let same = child_in-again kids fields.1 in
     let many = child_count-same (children_again kids) kids same in
     let shape : has_shape (node.branch None (children_again kids)) ≡ true = shape_only (node.branch None (children_again kids)) (omega (arith, many, shape)) in
-    (node.branch None (children_again kids), rw shape refl, (refl, same))
+    (node.branch None (children_again kids), rw shape refl, (refl, same), child_in-past (bitmap_of kids) (digests_of kids) (bitmap_of-fits kids fields.1).0)
 node_only (node.branch (Some value) kids) fields shape =
     let same = child_in-again kids fields.1 in
     let many = child_count-same (children_again kids) kids same in
     let shape : has_shape (node.branch (Some value) (children_again kids)) ≡ true = shape_only (node.branch (Some value) (children_again kids)) (shape.0, omega (arith, many, shape.1)) in
-    (node.branch (Some value) (children_again kids), rw shape refl, (refl, same))
+    (node.branch (Some value) (children_again kids), rw shape refl, (refl, same), child_in-past (bitmap_of kids) (digests_of kids) (bitmap_of-fits kids fields.1).0)
 node_only (node.extension path child) fields shape =
-    (node.extension path child, rw (suited_only false path fields.0, shape_only (node.extension path child) shape) refl, (refl, refl))
+    (node.extension path child, rw (suited_only false path fields.0, shape_only (node.extension path child) shape) refl, (refl, refl), tt)
 
 -- ---- records
 
-pub record_in-found : (bytes : List ℕ) → AreBytes bytes → Gives (record_in bytes) (λ r. IsRecord r.0 r.1 bytes)
+pub record_in-found : (bytes : List ℕ) → AreBytes bytes → Gives (record_in bytes) (λ r. IsRecord r.0 r.1 bytes × HasNibblesOnly r.0)
 unfolding record_in
 record_in-found bytes small = go (layout_of bytes) refl (layout_found bytes small)
   where
-    go : (read : Result (Layout × ℕ) FrameFault) → layout_of bytes ≡ read → Gives read (IsLayout bytes) → Gives (record_in bytes) (λ r. IsRecord r.0 r.1 bytes)
+    go : (read : Result (Layout × ℕ) FrameFault) → layout_of bytes ≡ read → Gives read (IsLayout bytes) → Gives (record_in bytes) (λ r. IsRecord r.0 r.1 bytes × HasNibblesOnly r.0)
     go (Err fault) e h = rw e (record { given = tt })
     go (Ok layout) e h = let layout_is = h.given in rw e (and_then (node_found layout.0 layout_is.fits layout_is.path) (λ n k. gives _ (record {
       spelling = layout_is.spelling ∙ k.spelling layout.1;
@@ -164,14 +169,14 @@ record_in-found bytes small = go (layout_of bytes) refl (layout_found bytes smal
       path = k.path;
       usage_fits = layout_is.usage_fits;
       shape = k.shape;
-    })))
+    }, k.nibbles)))
 
-pub record_in-only : (n : Node) (usage : ℕ) (bytes : List ℕ) → IsRecord n usage bytes → IsOkAnd (record_in bytes) (λ r. SameNode r.0 n × (r.1 ≡ usage))
+pub record_in-only : (n : Node) (usage : ℕ) (bytes : List ℕ) → IsRecord n usage bytes → IsOkAnd (record_in bytes) (λ r. SameNode r.0 n × (r.1 ≡ usage) × HasNibblesOnly r.0)
 unfolding record_in
 record_in-only n usage bytes h =
     let layout : layout_of bytes ≡ Ok (layout_from n, usage) = ap layout_of (h.spelling ∙ spelled_layout-from n usage) ∙ layout_only (layout_from n) usage (layout_from-fits n h.fields h.path) h.usage_fits in
     let read = node_only n h.fields h.shape in
-    rw (layout, read.1) (read.2, refl)
+    rw (layout, read.1) (read.2, refl, read.3)
 
 -- ---- what begins with a record
 

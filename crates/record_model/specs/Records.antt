@@ -1,5 +1,5 @@
 -- Reading the record of a node: its layout from left to right, then its path, then its shape.
-use Rattle.std.specs.Prelude.{◌≡◌, ℕ, ◌*◌, ◌/◌, ◌%◌, ◌^◌, ◌<◌, ◌==◌, ◌&&◌, not, nat_le, Bool, true, false, List, length, take, drop, Option, None, Some, Result, Ok, Err, if◌then◌else◌, ⊤}
+use Rattle.std.specs.Prelude.{◌≡◌, ℕ, ◌*◌, ◌/◌, ◌%◌, ◌^◌, ◌<◌, ◌≤◌, ◌==◌, ◌&&◌, not, nat_le, Bool, true, false, List, length, take, drop, Option, None, Some, Result, Ok, Err, if◌then◌else◌, ⊤}
 use Rattle.std.specs.Int.{w8, w16, w32, w64}
 use Rattle.byte_model.specs.Below.{sum_below}
 use Rattle.byte_model.specs.PackedPath.{packed}
@@ -142,6 +142,12 @@ abbrev pub HasShortPath : Node → Type 0
 HasShortPath (node.leaf path value) = length (packed true path) < 2 ^ 32
 HasShortPath (node.branch value kids) = ⊤
 HasShortPath (node.extension path child) = length (packed false path) < 2 ^ 32
+
+-- A branch has no child at a number that is no nibble.
+abbrev pub HasNibblesOnly : Node → Type 0
+HasNibblesOnly (node.leaf path value) = ⊤
+HasNibblesOnly (node.branch value kids) = (x : ℕ) → 16 ≤ x → kids x ≡ None
+HasNibblesOnly (node.extension path child) = ⊤
 
 -- The bytes are the one spelling of a node of good shape and a usage, and each part fits its field.
 pub record IsRecord (n : Node) (usage : ℕ) (bytes : List ℕ) : Type 0 where

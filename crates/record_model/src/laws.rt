@@ -10,7 +10,7 @@ ghost use Rattle.byte_model.specs.Laws.{FitsRecord, SameNode};
 ghost use Rattle.record_model.specs.Fields.{Cursor, short, bytes_at, number_at, vector_at, digests_at};
 ghost use Rattle.record_model.specs.Exact.{ReadsExactly};
 ghost use Rattle.record_model.specs.Paths.{path_in};
-ghost use Rattle.record_model.specs.Records.{HasShortPath, IsRecord, has_shape, record_in};
+ghost use Rattle.record_model.specs.Records.{HasNibblesOnly, HasShortPath, IsRecord, has_shape, record_in};
 
 /// Reading a field accepts exactly what Borsh 1.0 spells: integers of one, two, four and eight bytes, arrays of a fixed length, and vectors of bytes.
 pub fn fields_are_read_exactly()
@@ -40,10 +40,10 @@ pub fn shapes_are_tested()
     ensures { (node : Node) → Decides (has_shape node) (IsShaped node) }
 {}
 
-/// Reading a record accepts exactly the spellings of nodes.
+/// Reading a record accepts exactly the spellings of nodes. A branch that is read has no child but those of the sixteen nibbles.
 pub fn records_are_read_exactly()
-    ensures found { (bytes : List ℕ) → AreBytes bytes → IfOk (record_in bytes) (λ r. IsRecord r.0 r.1 bytes) }
-    ensures only { (node : Node) (usage : ℕ) (bytes : List ℕ) → IsRecord node usage bytes → IsOkAnd (record_in bytes) (λ r. SameNode r.0 node × (r.1 ≡ usage)) }
+    ensures found { (bytes : List ℕ) → AreBytes bytes → IfOk (record_in bytes) (λ r. IsRecord r.0 r.1 bytes × HasNibblesOnly r.0) }
+    ensures only { (node : Node) (usage : ℕ) (bytes : List ℕ) → IsRecord node usage bytes → IsOkAnd (record_in bytes) (λ r. SameNode r.0 node × (r.1 ≡ usage) × HasNibblesOnly r.0) }
 {}
 
 /// A spelling belongs to one node and usage, and none is the prefix of another. Of spellings it is said whatever shape the nodes have.

@@ -23,6 +23,10 @@ pub subtree_at-root : (state : State) → subtree_at state [] ≡ tree_of (rows_
 unfolding subtree_at
 subtree_at-root state = ap tree_of (below-nil (rows_of state))
 
+pub subtree_at-append : (state : State) (p q : List ℕ) → subtree_at state (p ++ q) ≡ tree_of (below q (below p (rows_of state)))
+unfolding subtree_at
+subtree_at-append state p q = ap tree_of (below-append p q (rows_of state))
+
 pub subtree_at-same : (m n : State) (p q : List ℕ) → below p (rows_of m) ≡ below q (rows_of n) → subtree_at m p ≡ subtree_at n q
 unfolding subtree_at
 subtree_at-same m n p q e = ap tree_of e

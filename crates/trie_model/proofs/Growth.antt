@@ -1,5 +1,5 @@
 -- Rows that share a prefix, and rows that fork: what their tries are, made from those of their parts.
-use Rattle.std.proofs.Common.{◌≡◌, ◌≢◌, ℕ, zero, suc, ◌<◌, ◌≤◌, ◌==◌, true, false, if◌then◌else◌, List, [], ◌∷◌, ◌++◌, Option, None, Some, refl, sym, ◌∙◌, ap, ap₂, subst, inl, inr, ◌⊎◌, arith, append-nil, nat_cmp, Less, Equal, Greater}
+use Rattle.std.proofs.Common.{◌≡◌, ◌≢◌, ℕ, zero, suc, ◌<◌, ◌≤◌, ◌==◌, true, false, if◌then◌else◌, List, [], ◌∷◌, ◌++◌, Option, None, Some, refl, sym, ◌∙◌, ap, ap₂, subst, inl, inr, ◌⊎◌, arith, append-nil, append_assoc, nat_cmp, Less, Equal, Greater}
 use Rattle.std.specs.List.{AllByRecursion}
 use Rattle.std.specs.Ordering.{ordering_then}
 use Rattle.std.specs.Cmp.Lexicographic.{slice_cmp}
@@ -9,7 +9,7 @@ use mathlib.Core.Path.{fun_ext}
 use Rattle.byte_model.specs.Below.{joined_below}
 use Rattle.byte_model.proofs.Digits.{nat_cmp-greater, nat_cmp-itself}
 use Rattle.trie_model.specs.State.{Row}
-use Rattle.trie_model.specs.Tree.{branch, extension, rest_behind, below, ends_here, common, common_prefix, tree_of}
+use Rattle.trie_model.specs.Tree.{Tree, nothing, leaf, branch, extension, rest_behind, below, ends_here, common, common_prefix, tree_of}
 use Rattle.trie_model.specs.Grown.{grown}
 use Rattle.trie_model.proofs.Rests.{same_nibble, under, below-append, below-under, below-rows_append, under-below, AllHavePrefix}
 use Rattle.trie_model.proofs.Trees.{tree_of-nil, tree_of-one, tree_of-forks, tree_of-shares}
@@ -60,6 +60,17 @@ tree_of-under prefix (row ∷ next ∷ rows) = go prefix (common_prefix row (nex
         tree_of-shares (x ∷ f ++ row.0, row.1) (x ∷ f ++ next.0, next.1) (under (x ∷ f) rows) x (f ++ y ∷ c) (shared (x ∷ f) ∙ ap (λ (p : List ℕ). x ∷ f ++ p) e)
         ∙ ap (λ (rs : List Row). extension (x ∷ f ++ y ∷ c) (tree_of rs)) (below-append (x ∷ f) (y ∷ c) (under (x ∷ f) all) ∙ ap (below (y ∷ c)) (below-under (x ∷ f) all))
         ∙ ap (grown (x ∷ f)) (sym (tree_of-shares row next rows y c e))
+
+-- growing twice
+pub grown-grown : (p q : List ℕ) (tree : Tree) → grown p (grown q tree) ≡ grown (p ++ q) tree
+unfolding grown
+grown-grown p q nothing = refl
+grown-grown p q (leaf path value) = ap (λ (all : List ℕ). leaf all value) (sym (append_assoc p q path))
+grown-grown [] [] (branch value kids) = refl
+grown-grown (x ∷ p) [] (branch value kids) = ap (λ (all : List ℕ). extension (x ∷ all) (branch value kids)) (sym (append-nil p))
+grown-grown [] (y ∷ q) (branch value kids) = refl
+grown-grown (x ∷ p) (y ∷ q) (branch value kids) = refl
+grown-grown p q (extension path child) = ap (λ (all : List ℕ). extension all child) (sym (append_assoc p q path))
 
 -- The trie of rows that all have a prefix is that of the rows below it, grown by it.
 pub tree_of-prefix : (prefix : List ℕ) (rows : List Row) → AllHavePrefix prefix rows → tree_of rows ≡ grown prefix (tree_of (below prefix rows))

@@ -4,6 +4,7 @@ use Rattle.std.specs.List.{cons_option, AllByRecursion}
 use Rattle.std.proofs.lemmas.Bool.Decides.{nat_tests}
 use Rattle.byte_model.proofs.Lists.{first_same, rest_same, AllByRecursion-weaker}
 use Rattle.trie_model.specs.State.{Row}
+pub use Rattle.trie_model.specs.Grown.{under, HasPrefix, AllHavePrefix}
 use Rattle.trie_model.specs.Tree.{rest_behind, row_behind, below, common, common_prefix}
 
 -- ---- tests on nibbles
@@ -86,10 +87,6 @@ below-rows_append prefix (row ∷ rows) others =
       | Some rest ↦ ap (λ rs. (rest, row.1) ∷ rs) (below-rows_append prefix rows others)
     ]
 
--- the rows with a prefix put before their paths
-abbrev pub under : List ℕ → List Row → List Row
-under prefix rows = map (λ row. (prefix ++ row.0, row.1)) rows
-
 pub below-under : (prefix : List ℕ) (rows : List Row) → below prefix (under prefix rows) ≡ rows
 unfolding below
 below-under prefix [] = refl
@@ -97,14 +94,6 @@ below-under prefix (row ∷ rows) =
     rw (rest_behind-prefix prefix row.0) (ap (λ rs. row ∷ rs) (below-under prefix rows))
 
 -- ---- prefixes
-
--- a path has a prefix
-abbrev pub HasPrefix : List ℕ → List ℕ → Type 0
-HasPrefix prefix path = (rest : List ℕ) × (path ≡ prefix ++ rest)
-
--- each row's path does
-abbrev pub AllHavePrefix : List ℕ → List Row → Type 0
-AllHavePrefix prefix rows = AllByRecursion (λ row. HasPrefix prefix row.0) rows
 
 pub HasPrefix-append : (prefix more path : List ℕ) → HasPrefix (prefix ++ more) path → HasPrefix prefix path
 HasPrefix-append prefix more path h = (more ++ h.0, h.1 ∙ append_assoc prefix more h.0)

@@ -1,11 +1,24 @@
--- A trie with nibbles put before it.
-use Rattle.std.specs.Prelude.{ℕ, List, [], ◌∷◌, ◌++◌}
+-- Rows with nibbles put before their paths, and what that makes of their trie.
+use Rattle.std.specs.Prelude.{◌≡◌, ℕ, List, [], ◌∷◌, ◌++◌, map}
+use Rattle.std.specs.List.{AllByRecursion}
+use Rattle.trie_model.specs.State.{Row}
 use Rattle.trie_model.specs.Tree.{Tree, nothing, leaf, branch, extension}
 
--- A path grows, a branch becomes the child of an extension, and no nibbles change nothing. It is the trie of the same rows with the nibbles before their paths.
+-- the rows with a prefix put before each path
+abbrev pub under : List ℕ → List Row → List Row
+under prefix rows = map (λ row. (prefix ++ row.0, row.1)) rows
+
+-- A path grows, a branch becomes the child of an extension, and no nibbles change nothing.
 unfoldable pub grown : List ℕ → Tree → Tree
 grown prefix nothing = nothing
 grown prefix (leaf path value) = leaf (prefix ++ path) value
 grown [] (branch value kids) = branch value kids
 grown (x ∷ prefix) (branch value kids) = extension (x ∷ prefix) (branch value kids)
 grown prefix (extension path child) = extension (prefix ++ path) child
+
+-- a path has a prefix, and the paths of all rows do
+abbrev pub HasPrefix : List ℕ → List ℕ → Type 0
+HasPrefix prefix path = (rest : List ℕ) × (path ≡ prefix ++ rest)
+
+abbrev pub AllHavePrefix : List ℕ → List Row → Type 0
+AllHavePrefix prefix rows = AllByRecursion (λ row. HasPrefix prefix row.0) rows

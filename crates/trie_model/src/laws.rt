@@ -9,7 +9,8 @@ ghost use Rattle.sha2.specs.Sha256.{sha256};
 ghost use Rattle.byte_model.specs.Node.{IsShaped, own_cost, spelled};
 ghost use Rattle.byte_model.specs.Laws.{FitsRecord};
 ghost use Rattle.trie_model.specs.State.{State, Row, IsState, rows_of};
-ghost use Rattle.trie_model.specs.Tree.{below, longest, tree_by, tree_of, tree_within};
+ghost use Rattle.trie_model.specs.Tree.{Tree, below, longest, tree_by, tree_of, tree_within};
+ghost use Rattle.trie_model.specs.Grown.{AllHavePrefix, grown, under};
 ghost use Rattle.trie_model.specs.Texts.{node_of, top_cost, usage};
 ghost use Rattle.trie_model.specs.Root.{NoClash, Holds, Table, places_of, root, subtree_at, text_at, texts_of, total, zero_digest};
 ghost use Rattle.trie_model.specs.Laws.{ChildrenArePlaces, NamesChildren, children_usage, held_at};
@@ -18,6 +19,22 @@ ghost use Rattle.trie_model.specs.Laws.{ChildrenArePlaces, NamesChildren, childr
 pub fn trie_by_three_cases()
     ensures cases { (rows : List Row) → tree_by tree_of rows ≡ tree_of rows }
     ensures bounds { (depth : ℕ) (rows : List Row) → longest rows < depth → tree_within depth rows ≡ tree_of rows }
+{}
+
+/// What lies below a path is told step by step, and nibbles that are put before paths are taken off by going below them.
+pub fn rows_below_a_path()
+    ensures none { (rows : List Row) → below [] rows ≡ rows }
+    ensures further { (p q : List ℕ) (rows : List Row) → below (p ++ q) rows ≡ below q (below p rows) }
+    ensures under { (prefix : List ℕ) (rows : List Row) → below prefix (under prefix rows) ≡ rows }
+    ensures all { (prefix : List ℕ) (rows : List Row) → AllHavePrefix prefix rows → under prefix (below prefix rows) ≡ rows }
+    ensures subtree { (state : State) (p q : List ℕ) → subtree_at state (p ++ q) ≡ tree_of (below q (below p (rows_of state))) }
+{}
+
+/// The trie of rows with nibbles before each path is the trie of the rows, grown by these nibbles. So is the trie of rows that all have a prefix, from that of the rows below it.
+pub fn trie_of_rows_under_nibbles()
+    ensures under { (nibbles : List ℕ) (rows : List Row) → tree_of (under nibbles rows) ≡ grown nibbles (tree_of rows) }
+    ensures prefix { (prefix : List ℕ) (rows : List Row) → AllHavePrefix prefix rows → tree_of rows ≡ grown prefix (tree_of (below prefix rows)) }
+    ensures twice { (p q : List ℕ) (tree : Tree) → grown p (grown q tree) ≡ grown (p ++ q) tree }
 {}
 
 /// A text depends on the rests and values of the pairs below its place, and on nothing else of the state or the place.

@@ -7,7 +7,7 @@ use Rattle.byte_model.proofs.Digits.{AreNibbles-append}
 use Rattle.byte_model.specs.Node as node
 use Rattle.byte_model.specs.Node.{Node}
 use Rattle.byte_model.specs.Laws.{FitsRecord}
-use Rattle.record_model.specs.Records.{IsRecord, record_in}
+use Rattle.record_model.specs.Records.{IsRecord, HasNibblesOnly, record_in}
 use Rattle.record_model.proofs.Nodes.{record_in-found}
 use Rattle.trie_model.specs.Root.{Table}
 use Rattle.visit_model.specs.Keys.{AreByteTexts}
@@ -18,8 +18,8 @@ use Rattle.visit_model.proofs.Fitting.{all_seen}
 -- the parts of a node that bytes spell fit their fields
 parts_fit : (bytes : List ℕ) (n : Node) (usage : ℕ) → AreBytes bytes → record_in bytes ≡ Ok (n, usage) → FitsRecord n
 parts_fit bytes n usage h e =
-    let whole : IsRecord n usage bytes = IfOk-at_ok (λ r. IsRecord r.0 r.1 bytes) e (record_in-found bytes h).given in
-    whole.fields
+    let read : IsRecord n usage bytes × HasNibblesOnly n = IfOk-at_ok (λ r. IsRecord r.0 r.1 bytes × HasNibblesOnly r.0) e (record_in-found bytes h).given in
+    read.0.fields
 
 pub nibbles-seen : (table : Table) (root : List ℕ) → AreByteTexts table → AllByRecursion (λ name. AreNibbles name.0) (named_in (seen table root))
 nibbles-seen table root bytes = all_seen table (λ depth name. AreNibbles name.0) (record {

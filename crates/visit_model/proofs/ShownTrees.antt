@@ -1,5 +1,5 @@
 -- What is seen of a trie whose texts are all held, and whose nodes fit, is the trie.
-use Rattle.std.proofs.Common.{◌≡◌, ℕ, ◌+◌, ◌<◌, ◌≤◌, ◌&&◌, nat_le, nat_lt, Bool, true, false, if◌then◌else◌, List, length, Option, None, Some, option_map, Result, Ok, Err, ◌⊎◌, inl, inr, refl, sym, ◌∙◌, ap, ap₂, arith}
+use Rattle.std.proofs.Common.{◌≡◌, ℕ, ◌+◌, ◌<◌, ◌≤◌, ◌&&◌, nat_le, nat_lt, Bool, true, false, if◌then◌else◌, List, length, Option, None, Some, option_map, Result, Ok, Err, IsOkAnd, ◌⊎◌, inl, inr, refl, sym, ◌∙◌, ap, ap₂, arith}
 use Rattle.std.specs.FinMap.{get}
 use Rattle.std.proofs.lemmas.Bool.{cases_lt}
 use mathlib.Core.Path.{fun_ext}
@@ -8,9 +8,10 @@ use Rattle.byte_model.specs.PackedPath.{longest_path}
 use Rattle.byte_model.specs.Node as node
 use Rattle.byte_model.specs.Node.{Node, ValueRef, longest_value, child_count}
 use Rattle.byte_model.specs.Laws.{SameNode}
-use Rattle.record_model.specs.Records.{IsRecord, RecordFault, record_in}
+use Rattle.record_model.specs.Records.{IsRecord, HasNibblesOnly, RecordFault, record_in}
 use Rattle.record_model.specs.Fits.{fits_at, has_place, is_whole}
 use Rattle.record_model.proofs.Kids.{child_count-same}
+use Rattle.record_model.proofs.Nodes.{record_in-only}
 use Rattle.trie_model.specs.Tree.{Tree, nothing, leaf, branch, extension}
 use Rattle.trie_model.specs.Texts.{text, usage, name_of, node_of, value_ref}
 use Rattle.trie_model.specs.Root.{Table}
@@ -20,7 +21,6 @@ use Rattle.visit_model.specs.Seen as seen
 use Rattle.visit_model.specs.Seen.{Seen, seen_child, seen_node, seen_record, seen_text, seen_at}
 use Rattle.visit_model.specs.Shown.{shown}
 use Rattle.visit_model.proofs.SeenBounds.{seen_at-seen_text, place_fits, branch_room, extension_room}
-use Rattle.visit_model.proofs.ShownRecords.{NoKidsPast, IsReadAs, read_as}
 use Rattle.visit_model.proofs.ShownFits.{IsThere, FitsBelow}
 
 -- ---- the same node fits at the same places
@@ -61,9 +61,9 @@ module _ (table : Table) where
 
   -- whatever the same node is seen as, by what is seen further down, is the tree
   abbrev Shows : ℕ → Tree → Node → Type 0
-  Shows depth tree n = (m : Node) → SameNode m n → NoKidsPast m → seen_node (seen_at table) depth (sha256 (text tree)) m (usage tree) ≡ shown tree
+  Shows depth tree n = (m : Node) → SameNode m n → HasNibblesOnly m → seen_node (seen_at table) depth (sha256 (text tree)) m (usage tree) ≡ shown tree
 
-  record_seen : (depth : ℕ) (after_extension : Bool) (tree : Tree) (n : Node) (read : Result (Node × ℕ) RecordFault) → IsReadAs n (usage tree) read → fits_at depth after_extension n ≡ true → Shows depth tree n → seen_record (seen_at table) depth after_extension (sha256 (text tree)) read ≡ shown tree
+  record_seen : (depth : ℕ) (after_extension : Bool) (tree : Tree) (n : Node) (read : Result (Node × ℕ) RecordFault) → IsOkAnd read (λ r. SameNode r.0 n × (r.1 ≡ usage tree) × HasNibblesOnly r.0) → fits_at depth after_extension n ≡ true → Shows depth tree n → seen_record (seen_at table) depth after_extension (sha256 (text tree)) read ≡ shown tree
   unfolding seen_record
   record_seen depth after_extension tree n (Err e) is fits shows = absurd is
   record_seen depth after_extension tree n (Ok r) is fits shows =
@@ -76,7 +76,7 @@ module _ (table : Table) where
   text_seen depth after_extension tree n room held is fits shows =
       seen_at-seen_text table depth after_extension (sha256 (text tree)) room
       ∙ ap (seen_text (seen_at table) depth after_extension (sha256 (text tree))) held
-      ∙ record_seen depth after_extension tree n (record_in (text tree)) (read_as n (usage tree) (text tree) is) fits shows
+      ∙ record_seen depth after_extension tree n (record_in (text tree)) (record_in-only n (usage tree) (text tree) is) fits shows
 
   -- ---- by what the tree is
 
