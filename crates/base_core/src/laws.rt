@@ -1,6 +1,6 @@
 //! Laws: what the constants and the order of digests mean. A law is proved where its function is: there is nothing to run.
 
-ghost use Rattle.std.specs.Prelude.{◌≡◌, length};
+ghost use Rattle.std.specs.Prelude.{◌≡◌, ◌↔◌, true, length};
 ghost use Rattle.std.specs.Ordering.{nat_cmp};
 ghost use Rattle.std.specs.Cmp.Lexicographic.{slice_cmp};
 ghost use Rattle.byte_model.specs.Node.{longest_value};
@@ -22,5 +22,6 @@ pub fn constants_are_those_of_the_definitions()
 
 /// Digests are equal where their bytes are, and stand in the lexicographic order of their bytes, each read as a number from 0 to 255.
 pub fn digests_are_ordered_as_bytes()
+    ensures equal { (a b : Digest) → (⟦<Digest as PartialEq>⟧.eq a b ≡ true) ↔ (a ≡ b) }
     ensures order { (a b : Digest) → ⟦<Digest as Ord>⟧.cmp a b ≡ slice_cmp nat_cmp a.0 b.0 }
 {}

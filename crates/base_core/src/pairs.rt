@@ -3,6 +3,8 @@ ghost use Rattle.std.specs.Option.{option_copied};
 ghost use Rattle.std.specs.List.{slice_get};
 ghost use Rattle.std.specs.FinMap.{entries, get, empty};
 ghost use Rattle.byte_model.specs.Nibbles.{AreBytes};
+ghost use Rattle.byte_model.specs.Node.{longest_value};
+ghost use Rattle.trie_model.specs.State.{longest_key};
 ghost use Rattle.base_core.specs.declared.put_error.PutError.TheVariants.{NoMemory};
 ghost use Rattle.base_core.specs.Bounds.{most_pairs};
 ghost use Rattle.base_core.specs.PairMaps.{IsPairMap, laid, refusal, shown_entries};
@@ -51,6 +53,7 @@ impl Pairs {
     pub fn put(&mut self, key: Text, value: Text) -> Result<(), PutError>
         ensures refused { IfSome (refusal self.old key value) (λ error. result ≡ Err error) }
         ensures taken { IfNone (refusal self.old key value) (IsOkUnless result NoMemory) }
+        ensures fits { length key ≤ longest_key → length value ≤ longest_value → length (entries self.old.state) < self.old.most → IsOkUnless result NoMemory }
         ensures ok { OnOk result (self.new ≡ laid self.old key value) }
         ensures err { OnErr result (self.new ≡ self.old) }
     {

@@ -80,3 +80,38 @@ fn fields_past_the_end(rt: HostRuntime) {
     assert_eq!(rt; reader.u8(), Err(BorshError::Short { at: 7 }));
     assert_eq!(rt; reader.take(0), Ok(b"".as_slice()));
 }
+
+#[test]
+fn limits_in_full(rt: HostRuntime) {
+    let Limits {
+        pairs,
+        blocks,
+        changes,
+    } = Limits::FULL;
+    assert_eq!(rt; (pairs, blocks, changes), (4_194_304, 4_096, 1_048_576));
+    assert_eq!(rt; (LONGEST_KEY, LONGEST_VALUE), (2_114, 4_194_304));
+}
+
+#[test]
+fn digests_as_bytes(rt: HostRuntime) {
+    let low = Digest([1; DIGEST_BYTES]);
+    let high = Digest::from_slice(&[200; DIGEST_BYTES]);
+    assert!(rt; Digest::ZERO < low);
+    assert!(rt; low < high);
+    assert_eq!(rt; high, Digest([200; DIGEST_BYTES]));
+    let mut digits = [0; 64];
+    digest(b"abc").to_hex_into(&mut digits);
+    assert_eq!(rt;
+        &digits,
+        b"ba7816bf8f01cfea414140de5dae2223b00361a396177a9cb410ff61f20015ad"
+    );
+}
+
+#[test]
+fn calls_fail_by_their_numbers(rt: HostRuntime) -> Result<(), Fail> {
+    let mut failures = Failures::new(rt.alloc(), &[3, 1, 3])?;
+    for fails in [true, false, true, false] {
+        assert_eq!(rt; failures.call().is_err(), fails);
+    }
+    Ok(())
+}
