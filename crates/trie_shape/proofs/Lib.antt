@@ -1,11 +1,8 @@
-pub mod Growth
-pub mod Rising
-pub mod Sorted
-pub mod Shared
-pub mod Bound
-pub mod Shaped
-pub mod Showing
+pub mod Runs
+pub mod Prefixes
+pub mod Kept
+pub mod Shows
 pub mod RowsAt
-pub mod Branching
+pub mod Branches
 pub mod Subtrees
-pub mod Whole
+pub mod States

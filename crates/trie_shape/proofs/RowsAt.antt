@@ -1,4 +1,4 @@
--- Pairs rows_at as rows from a depth on.
+-- Pairs as rows from a depth on.
 use Rattle.std.proofs.Common.{◌≡◌, ℕ, zero, suc, ◌<◌, ◌≤◌, ◌==◌, Bool, true, false, List, [], ◌∷◌, length, drop, get_or, None, Some, option_map, if◌then◌else◌, inl, inr, refl, sym, ◌∙◌, ap, subst, arith}
 use Rattle.std.specs.List.{AllByRecursion}
 use Rattle.std.specs.List.Sorted.{IsPartitionedBy, IsPartitionPoint}
@@ -7,9 +7,10 @@ use Rattle.trie_model.specs.State.{Row}
 use Rattle.trie_model.specs.Tree.{below, ends_here}
 use Rattle.trie_model.specs.Texts.{value_ref}
 use Rattle.trie_model.proofs.Rests.{equal_of_test}
-use Rattle.trie_shape.specs.Runs.{IsBelow, Rises, StartsFrom, AllFrom, goes_on, run_of}
+use Rattle.trie_model.proofs.Order.{Before, RisingRows}
+use Rattle.trie_shape.specs.Runs.{StartsFrom, AllFrom, goes_on, run_of}
 use Rattle.trie_shape.specs.RowsAt.{Lent, row_at, rows_at, AreRowsAt, IsLeft}
-use Rattle.trie_shape.proofs.Rising.{all-behind, none-ends, ends-first, below-first}
+use Rattle.trie_shape.proofs.Runs.{first_or_rest, all-behind, none-ends, ends-first, below-first}
 
 -- ---- how long a run is
 
@@ -28,18 +29,22 @@ each_at P depth (row ∷ rows) zero d h all = all.0
 each_at P depth (row ∷ rows) (suc j) d h all = each_at P depth rows j d (omega arith) all.1
 
 -- a path below one that goes on with the lowest nibble goes on with it too
-first_of : (x : ℕ) (p q : List ℕ) → StartsFrom x p → IsBelow p q → goes_on x q ≡ true → goes_on x p ≡ true
-first_of x [] q from below goes = absurd from
-first_of x (y ∷ p) [] from below goes = absurd below
-first_of x (y ∷ p) (z ∷ q) from (inl less) goes = let same = equal_of_test x z goes in absurd (omega arith)
-first_of x (y ∷ p) (z ∷ q) from (inr e) goes = subst (λ w. (x == w) ≡ true) (sym e.0) goes
+first_of : (x : ℕ) (p q : List ℕ) → StartsFrom x p → Before p q → goes_on x q ≡ true → goes_on x p ≡ true
+first_of x [] q from before goes = absurd from
+first_of x (y ∷ p) [] from before goes = cc
+first_of x (y ∷ p) (z ∷ q) from before goes =
+    let same = equal_of_test x z goes in
+    elim (first_or_rest y z p q before) [
+      | inl less ↦ absurd (omega arith)
+      | inr e ↦ subst (λ w. (x == w) ≡ true) (sym e.0) goes
+    ]
 
 -- rising rows go on with the lowest nibble up to some place
-pub parted : (x depth : ℕ) (rows : List Lent) → Rises (rows_at depth rows) → AllFrom x (rows_at depth rows) → IsPartitionedBy (λ row. goes_on x (row_at depth row).0) rows
+pub parted : (x depth : ℕ) (rows : List Lent) → RisingRows (rows_at depth rows) → AllFrom x (rows_at depth rows) → IsPartitionedBy (λ row. goes_on x (row_at depth row).0) rows
 parted x depth [] rises from i j d le h goes = absurd (omega arith)
 parted x depth (row ∷ rows) rises from zero zero d le h goes = goes
 parted x depth (row ∷ rows) rises from zero (suc j) d le h goes =
-    first_of x (row_at depth row).0 (row_at depth (get_or rows j d)).0 from.0 (each_at (λ other. IsBelow (row_at depth row).0 other.0) depth rows j d (omega arith) rises.0) goes
+    first_of x (row_at depth row).0 (row_at depth (get_or rows j d)).0 from.0 (each_at (λ other. Before (row_at depth row).0 other.0) depth rows j d (omega arith) rises.0) goes
 parted x depth (row ∷ rows) rises from (suc i) zero d le h goes = absurd (omega arith)
 parted x depth (row ∷ rows) rises from (suc i) (suc j) d le h goes = parted x depth rows rises.1 from.1 i j d (omega arith) (omega arith) goes
 

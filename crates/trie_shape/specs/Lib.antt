@@ -1,4 +1,8 @@
-pub mod Fitting
+-- rows by their first nibbles
 pub mod Runs
+-- the pairs of a map as such rows
 pub mod RowsAt
+-- what a subtree stands for, and what a record that was written does
 pub mod Shows
+-- what a text holds for a place of a trie
+pub mod Fitting

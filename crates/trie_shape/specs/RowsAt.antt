@@ -1,4 +1,4 @@
--- Pairs in the order of their keys, rows_at as rows from some nibble of their keys on.
+-- Pairs in the order of their keys, as rows from some nibble of their keys on.
 use Rattle.std.specs.Prelude.{◌≡◌, ℕ, ◌≤◌, List, [], ◌∷◌, map, drop, length}
 use Rattle.std.specs.Borrow.{Bor}
 use Rattle.std.specs.List.{AllByRecursion}
@@ -8,7 +8,8 @@ use Rattle.byte_model.specs.PackedPath.{longest_path}
 use Rattle.byte_model.specs.Node.{longest_value}
 use Rattle.trie_model.specs.State.{Row}
 use Rattle.trie_model.specs.Tree as tree
-use Rattle.trie_shape.specs.Runs.{Rises, AllFrom}
+use Rattle.trie_model.proofs.Order.{RisingRows}
+use Rattle.trie_shape.specs.Runs.{AllFrom}
 
 -- a key and its value
 abbrev pub Lent : Type 0
@@ -29,7 +30,7 @@ pub record IsRowAt (depth : ℕ) (row : Lent) : Type 0 where
 
 -- all do, and their keys rise from there on
 pub record AreRowsAt (depth : ℕ) (rows : List Lent) : Type 0 where
-  pub rises : Rises (rows_at depth rows)
+  pub rises : RisingRows (rows_at depth rows)
   pub each : AllByRecursion (IsRowAt depth) rows
 
 -- What is left of rows once those that end here, or go on with a nibble below x, are taken.

@@ -1,19 +1,8 @@
--- Rows by rising paths, and the runs of rows that begin with one nibble.
-use Rattle.std.specs.Prelude.{◌≡◌, ℕ, suc, ◌<◌, ◌≤◌, ◌==◌, Bool, false, List, [], ◌∷◌, map, drop, if◌then◌else◌, ◌⊎◌}
+-- Rows and their first nibbles: the runs of rows that go on with one nibble, and what all rows share.
+use Rattle.std.specs.Prelude.{◌≡◌, ℕ, suc, ◌≤◌, ◌==◌, Bool, false, List, [], ◌∷◌, length, map, drop, if◌then◌else◌}
 use Rattle.std.specs.List.{AllByRecursion}
 use Rattle.trie_model.specs.State.{Row}
 use Rattle.trie_model.specs.Tree.{common_prefix}
-
--- an order on paths, a prefix first
-abbrev pub IsBelow : List ℕ → List ℕ → Type 0
-IsBelow p [] = ⊥
-IsBelow [] (y ∷ q) = Unit {0}
-IsBelow (x ∷ p) (y ∷ q) = (x < y) ⊎ ((x ≡ y) × IsBelow p q)
-
--- each row's path is below those after it
-abbrev pub Rises : List Row → Type 0
-Rises [] = Unit {0}
-Rises (row ∷ rows) = AllByRecursion (λ other. IsBelow row.0 other.0) rows × Rises rows
 
 -- each path has a nibble, and the first is at least x
 abbrev pub StartsFrom : ℕ → List ℕ → Type 0
@@ -41,3 +30,8 @@ tails rows = map (λ row. (drop 1 row.0, row.1)) rows
 abbrev pub prefix_of : List Row → List ℕ
 prefix_of [] = []
 prefix_of (row ∷ rows) = common_prefix row rows
+
+-- several rows that share no nibble, so that their trie is a branch
+pub record DoFork (rows : List Row) : Type 0 where
+  pub several : 2 ≤ length rows
+  pub apart : prefix_of rows ≡ []

@@ -1,6 +1,5 @@
 ghost use Rattle.std.specs.Prelude.{◌≡◌, ◌+◌, ◌^◌, ◌<◌, ◌≤◌, ℕ, List, [], length, take, drop, Option, option_map, IfOk};
 ghost use Rattle.std.specs.Option.{ForSome};
-ghost use Rattle.byte_model.specs.Below.{sum_below};
 ghost use Rattle.byte_model.specs.PackedPath.{longest_path};
 ghost use Rattle.byte_model.specs.Nibbles.{nibbles, AreNibbles};
 ghost use Rattle.byte_model.specs.Node as node;
@@ -11,9 +10,9 @@ ghost use Rattle.trie_model.specs.Texts as texts;
 ghost use Rattle.trie_model.specs.Root as state;
 ghost use Rattle.node_codec.specs.Meanings.{value_of, children_in};
 ghost use Rattle.trie_model.specs.Grown.{grown};
-ghost use Rattle.trie_shape.specs.Runs.{prefix_of};
+ghost use Rattle.trie_shape.specs.Runs.{DoFork};
 ghost use Rattle.trie_shape.specs.RowsAt.{rows_at, AreRowsAt};
-ghost use Rattle.trie_shape.specs.Shows.{Shows, IsName, top_node, path_of, usage_of};
+ghost use Rattle.trie_shape.specs.Shows.{Shows, MayClose, IsName, AreChildren, usage_of};
 
 use crate::close_error::CloseError;
 use crate::closing::close_branch;
@@ -81,8 +80,7 @@ fn subtree(alloc: Global, rows: &[KeyValue<'_>], depth: u64) -> Result<Sub, Allo
 fn branch(alloc: Global, rows: &[KeyValue<'_>], depth: u64) -> Result<Sub, AllocError>
     requires rows { AreRowsAt depth rows.now }
     requires depth { depth ≤ longest_path }
-    requires two { 2 ≤ length rows.now }
-    requires forks { prefix_of (rows_at depth rows.now) ≡ [] }
+    requires forks { DoFork (rows_at depth rows.now) }
     requires fits { texts.usage (tree_of (rows_at depth rows.now)) < 2 ^ 64 }
     ensures { IfOk result (λ sub. Shows sub (tree_of (rows_at depth rows.now))) }
 {
@@ -104,9 +102,7 @@ fn branch(alloc: Global, rows: &[KeyValue<'_>], depth: u64) -> Result<Sub, Alloc
 
 #[inline(never)]
 fn name_of(alloc: Global, sub: Sub) -> Result<(Option<Digest>, u64), AllocError>
-    requires nibbles { AreNibbles (path_of sub) }
-    requires short { length (path_of sub) ≤ longest_path }
-    requires shaped { ForSome (top_node sub) IsShaped }
+    requires closes { MayClose sub }
     requires fits { usage_of sub < 2 ^ 64 }
     ensures { IfOk result (λ name. (tree : Tree) → Shows sub tree → IsName name tree) }
 {
@@ -164,7 +160,7 @@ fn fork_of(
 ) -> Result<Sub, AllocError>
     requires shaped { IsShaped (node.branch (option_map value_of value) (children_in kids.now)) }
     requires fits { own_cost (node.branch (option_map value_of value) (children_in kids.now)) + kids_usage < 2 ^ 64 }
-    ensures { IfOk result (λ sub. (v : Option (List ℕ)) (trees : ℕ → Tree) → option_map value_of value ≡ option_map texts.value_ref v → ((x : ℕ) → x < 16 → children_in kids.now x ≡ texts.name_of (trees x) (texts.text (trees x))) → kids_usage ≡ sum_below (λ x. texts.usage (trees x)) 16 → Shows sub (tree.branch v trees)) }
+    ensures { IfOk result (λ sub. (v : Option (List ℕ)) (trees : ℕ → Tree) → option_map value_of value ≡ option_map texts.value_ref v → AreChildren (children_in kids.now) kids_usage trees → Shows sub (tree.branch v trees)) }
 {
     match close_branch(alloc, value, kids, kids_usage) {
         Ok(closed) => Ok(Sub::Branch {

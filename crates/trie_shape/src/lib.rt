@@ -8,6 +8,7 @@ mod closed;
 mod closing;
 mod costs;
 mod fitting;
+pub mod laws;
 mod rows;
 mod sub;
 

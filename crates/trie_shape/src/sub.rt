@@ -1,10 +1,12 @@
-ghost use Rattle.std.specs.Prelude.{◌≡◌, ◌≢◌, ◌^◌, ◌≤◌, ◌↔◌, ◌++◌, [], length, Ok, Err, None, IfOk, IfNone, IfSome, IsSomeAnd, OnOk};
+ghost use Rattle.std.specs.Prelude.{◌≡◌, ◌^◌, ◌≤◌, ◌↔◌, ◌++◌, List, length, option_map, Ok, Err, None, IfOk, IfNone, IfSome, IsSomeAnd};
 ghost use Rattle.std.specs.Option.{ForSome};
 ghost use Rattle.byte_model.specs.Nibbles.{AreNibbles};
 ghost use Rattle.byte_model.specs.PackedPath.{longest_path};
 ghost use Rattle.byte_model.specs.Node.{IsShaped};
-ghost use Rattle.trie_model.specs.Tree.{Tree};
 ghost use Rattle.trie_model.specs.Grown.{grown};
+ghost use Rattle.trie_model.specs.State.{Row};
+ghost use Rattle.trie_model.specs.Tree.{Tree, tree_of};
+ghost use Rattle.trie_model.proofs.Rests.{under};
 
 use crate::close_error::CloseError;
 use crate::closed::Closed;
@@ -38,13 +40,14 @@ pub enum Sub {
 
 impl Sub {
     ghost use Rattle.trie_shape.specs.declared.close_error.CloseError.TheVariants.{Usage};
-    ghost use Rattle.trie_shape.specs.Shows.{Shows, under_of, top_node, path_of, usage_of, IsRecord, IsTop, IsName};
+    ghost use Rattle.trie_shape.specs.Shows.{Shows, under_of, top_node, path_of, usage_of, digest_of, IsRecord, IsTop, IsName};
 
     /// Puts nibbles before it: a path grows, a branch becomes the child of an extension, and no
     /// nibbles change nothing.
     pub fn under(self, alloc: Global, nibbles: &[u8]) -> Result<Sub, AllocError>
         ensures value { IfOk result (λ sub. sub ≡ under_of nibbles.now self) }
         ensures shows { IfOk result (λ sub. (tree : Tree) → Shows self tree → Shows sub (grown nibbles.now tree)) }
+        ensures rows { IfOk result (λ sub. (rows : List Row) → Shows self (tree_of rows) → Shows sub (tree_of (under nibbles.now rows))) }
     {
         match self {
             Sub::Empty => Ok(Sub::Empty),
@@ -107,7 +110,9 @@ impl Sub {
         requires short { length (path_of self) ≤ longest_path }
         requires shaped { ForSome (top_node self) IsShaped }
         ensures usage { (result ≡ Err Usage) ↔ (2 ^ 64 ≤ usage_of self) }
-        ensures name { IfOk result (λ name. (tree : Tree) → Shows self tree → IsName name tree) }
+        ensures digest { IfOk result (λ name. option_map (λ d. d.0) name.0 ≡ digest_of self) }
+        ensures used { IfOk result (λ name. name.1 ≡ usage_of self) }
+        ensures shows { IfOk result (λ name. (tree : Tree) → Shows self tree → IsName name tree) }
     {
         match self {
             Sub::Empty => Ok((None, 0)),

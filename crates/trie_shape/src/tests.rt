@@ -1,5 +1,5 @@
 use super::*;
-use base_core::{Digest, Pairs, PutError, Text, Writer};
+use base_core::{Digest, Limits, Pairs, PutError, Text, Writer};
 use node_codec::{Kids, read_node};
 use std::alloc::{AllocError, Global};
 use std::process::Abort;
@@ -101,13 +101,19 @@ fn sixteen_children(rt: HostRuntime) -> Result<(), Fail> {
     Ok(())
 }
 
-/// The deepest trie: each key is a prefix of the next, up to the longest.
+/// The longest key, and then the deepest trie: each key is a prefix of the next, up to that one.
 #[test]
 fn nested_keys(rt: HostRuntime) -> Result<(), Fail> {
     let alloc = rt.alloc();
-    let mut pairs = Pairs::new(alloc, 2115);
+    let mut pairs = Pairs::new(alloc, Limits::FULL.pairs);
     let zeros = [0; 2114];
-    for length in 0..2115 {
+    put(&mut pairs, alloc, &zeros, b"")?;
+    let built = build(alloc, &pairs)?;
+    let root = b"b513e8280b62f04fbf9ac96926f80aed84b21294d1579bb1db1771e8a5d32008";
+    assert_eq!(rt; hex(&built.root).as_slice(), root.as_slice());
+    assert_eq!(rt; built.usage, 4330);
+
+    for length in 0..2114 {
         put(&mut pairs, alloc, &zeros[..length], b"")?;
     }
     let built = build(alloc, &pairs)?;

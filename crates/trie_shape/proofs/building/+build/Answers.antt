@@ -2,11 +2,15 @@ use Rattle.std.proofs.Common.{◌≡◌, ◌+◌, ◌<◌, ◌≤◌, ◌^◌, l
 use Rattle.byte_model.specs.PackedPath.{longest_path}
 use Rattle.byte_model.specs.Node.{IsShaped, own_cost}
 use Rattle.byte_model.specs.Node as node
+use Rattle.trie_model.specs.Tree.{ends_here, tree_of}
 use Rattle.node_codec.specs.Meanings.{value_of, children_in}
 use Rattle.trie_shape.specs.RowsAt.{rows_at}
-use Rattle.trie_shape.proofs.Rising.{run-short}
-use Rattle.trie_shape.proofs.Branching.{gathered-none, length-rows_at, turn-rows, turn-fits, turn-adds, turn-more, IsGathered, end-shaped, end-shown, end-fits}
-use Rattle.trie_shape.proofs.Subtrees.{shown_may_write, empty-shown, one-shown, shared-prefix, deeper-short, deeper-rows, deeper-forks, deeper-fits, deep-first, several-shown}
+use Rattle.trie_shape.proofs.Runs.{run-short}
+use Rattle.trie_shape.specs.Shows.{Shows, AreChildren, child_of}
+use Rattle.trie_shape.proofs.Branches.{gathered-none, length-rows_at, kept-rows_at, turn-rows, turn-fits, turn-adds, turn-more, IsGathered, end-children, end-shaped, end-fits, forks}
+use Rattle.trie_shape.proofs.Kept.{sound-tree_of, tree-forks}
+use Rattle.trie_shape.proofs.Shows.{may_close, usage-shown}
+use Rattle.trie_shape.proofs.Subtrees.{empty-shown, one-shown, shared-prefix, deeper-short, deeper-rows, deeper-apart, deeper-fits, deep-first, several-shown}
 use Rattle.std.proofs.lemmas.Result.{IfOk-weaker}
 use Rattle.trie_shape.proofs.building.+build.Goals as goal
 
@@ -29,7 +33,7 @@ branch-named-requires t c =
         (
           deeper,
           turn-fits c.args.depth c.args.rows.now c.loop-nibble.rest.now c.loop-nibble.nibble c.loop-nibble.kids.value c.loop-nibble.kids_usage c.loop-nibble.invariant c.split_at.result.0.now c.split_at.result.1.now c.run_length.result c.run_length.ensures c.split_at.ensures.front c.split_at.ensures.back
-              c.requires.forks c.requires.two c.loop-nibble-test.true c.requires.fits,
+              c.requires.forks c.loop-nibble-test.true c.requires.fits,
         ),
       ),
     )
@@ -37,7 +41,7 @@ branch-named-requires t c =
 pub branch-overflow_add-kids_usage : goal.branch-overflow_add-kids_usage
 branch-overflow_add-kids_usage t c = record {
   fits = turn-adds c.args.depth c.args.rows.now c.loop-nibble.rest.now c.loop-nibble.nibble c.loop-nibble.kids.value c.loop-nibble.kids_usage c.loop-nibble.invariant c.split_at.result.0.now c.split_at.result.1.now c.run_length.result c.run_length.ensures c.split_at.ensures.front c.split_at.ensures.back
-      c.requires.forks c.requires.two c.loop-nibble-test.true c.requires.fits (c.in_ok-name.name, c.in_ok-name.usage) c.in_ok-name.ensures;
+      c.requires.forks c.loop-nibble-test.true c.requires.fits (c.in_ok-name.name, c.in_ok-name.usage) c.in_ok-name.ensures;
 }
 
 pub branch-loop-nibble-preserved : goal.branch-loop-nibble-preserved
@@ -51,8 +55,8 @@ pub branch-fork_of-requires : goal.branch-fork_of-requires
 branch-fork_of-requires t c =
     let done : c.loop-nibble.nibble ≡ 16 = omega arith in
     let value = option_map value_of c.ending-value.result.0 in
-    let shaped = end-shaped c.args.depth c.args.rows.now c.loop-nibble.rest.now c.loop-nibble.nibble c.loop-nibble.kids.value c.loop-nibble.kids_usage done c.loop-nibble.invariant c.requires.forks c.requires.two c.requires.rows value c.ending-value.ensures.value in
-    let fits = end-fits c.args.depth c.args.rows.now c.loop-nibble.rest.now c.loop-nibble.nibble c.loop-nibble.kids.value c.loop-nibble.kids_usage done c.loop-nibble.invariant c.requires.forks c.requires.two value c.ending-value.ensures.value c.requires.fits in
+    let shaped = end-shaped c.args.depth c.args.rows.now c.loop-nibble.rest.now c.loop-nibble.nibble c.loop-nibble.kids.value c.loop-nibble.kids_usage done c.loop-nibble.invariant c.requires.forks c.requires.rows value c.ending-value.ensures.value in
+    let fits = end-fits c.args.depth c.args.rows.now c.loop-nibble.rest.now c.loop-nibble.nibble c.loop-nibble.kids.value c.loop-nibble.kids_usage done c.loop-nibble.invariant c.requires.forks value c.ending-value.ensures.value c.requires.fits in
     record {
       shaped = subst (λ kids. IsShaped (node.branch value (children_in kids))) (sym c.deref.ensures) shaped;
       fits = subst (λ kids. own_cost (node.branch value (children_in kids)) + c.loop-nibble.kids_usage < 2 ^ 64) (sym c.deref.ensures) fits;
@@ -61,16 +65,19 @@ branch-fork_of-requires t c =
 pub branch-returns : goal.branch-returns
 branch-returns t c =
     let done : c.loop-nibble.nibble ≡ 16 = omega arith in
+    let rows = rows_at c.args.depth c.args.rows.now in
+    let children = end-children c.args.depth c.args.rows.now c.loop-nibble.rest.now c.loop-nibble.nibble c.loop-nibble.kids.value c.loop-nibble.kids_usage done c.loop-nibble.invariant c.requires.forks in
     IfOk-weaker c.fork_of.result _ _ (λ sub shows.
-    end-shown c.args.depth c.args.rows.now c.loop-nibble.rest.now c.loop-nibble.nibble c.loop-nibble.kids.value c.loop-nibble.kids_usage done c.loop-nibble.invariant c.requires.forks c.requires.two (option_map value_of c.ending-value.result.0) c.ending-value.ensures.value sub
-    (λ v trees e named used. shows v trees e (λ y h. ap (λ kids. children_in kids y) c.deref.ensures ∙ named y h) used)) c.fork_of.ensures
+    subst (Shows sub) (sym (tree-forks rows c.requires.forks))
+    (shows (ends_here rows) (child_of rows) c.ending-value.ensures.value (subst (λ kids. AreChildren (children_in kids) c.loop-nibble.kids_usage (child_of rows)) (sym c.deref.ensures) children))) c.fork_of.ensures
 
 pub named-name_of-requires : goal.named-name_of-requires
 named-name_of-requires t c =
-    let may = shown_may_write c.args.depth c.args.rows.now c.in_ok-sub.sub c.requires.rows c.in_ok-sub.ensures in
-    let same = may.used in
+    let rows = rows_at c.args.depth c.args.rows.now in
+    let shows = c.in_ok-sub.ensures in
+    let same = usage-shown c.in_ok-sub.sub (tree_of rows) shows in
     let fits = c.requires.fits in
-    record { nibbles = may.nibbles; short = may.short; shaped = may.shaped; fits = omega arith }
+    record { closes = may_close c.in_ok-sub.sub (tree_of rows) shows (sound-tree_of rows (kept-rows_at c.args.depth c.args.rows.now c.requires.rows)); fits = omega arith }
 
 pub named-returns : goal.named-returns
 named-returns t c = IfOk-weaker c.name_of.result _ _ (λ name is. is _ c.in_ok-sub.ensures) c.name_of.ensures
@@ -100,11 +107,8 @@ subtree-branch-alloc-requires t c =
         (
           short,
           (
-            two,
-            (
-              deeper-forks c.args.depth c.shared_length-shared.result c.args.rows.now c.requires.rows shared,
+            forks (c.args.depth + c.shared_length-shared.result) c.args.rows.now (deeper-apart c.args.depth c.shared_length-shared.result c.args.rows.now c.requires.rows shared) two,
               deeper-fits c.args.depth c.shared_length-shared.result c.args.rows.now c.requires.rows shared two c.requires.fits,
-            ),
           ),
         ),
       ),

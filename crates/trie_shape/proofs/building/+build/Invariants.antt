@@ -1,6 +1,6 @@
 use Rattle.std.proofs.Common.{◌+◌, ◌-◌, ◌*◌}
 use Rattle.byte_model.specs.PackedPath.{longest_path}
-use Rattle.trie_shape.proofs.Branching.{IsGathered}
+use Rattle.trie_shape.proofs.Branches.{IsGathered}
 use Rattle.trie_shape.proofs.building.+build.Given as goal
 
 -- each step down goes from a name to a subtree, from there to a branch, and one nibble further to a name

@@ -3,7 +3,7 @@ use Rattle.trie_model.specs.Tree.{tree_of}
 use Rattle.trie_model.specs.Texts as texts
 use Rattle.trie_shape.specs.RowsAt.{rows_at, AreRowsAt}
 use Rattle.trie_shape.specs.Shows.{IsName}
-use Rattle.trie_shape.proofs.Whole.{state-rows, state-fits, state-total, state-root}
+use Rattle.trie_shape.proofs.States.{state-rows, state-fits, state-total, state-root}
 use Rattle.trie_shape.proofs.building.build.Goals as goal
 
 pub named-requires-clause-rows : goal.named-requires-clause-rows

@@ -1,9 +1,9 @@
 use Rattle.std.proofs.Common.{Err, ap, ◌∙◌, arith}
-use Rattle.trie_shape.proofs.Branching.{branch-shown}
+use Rattle.trie_shape.proofs.Shows.{branch-shown}
 use Rattle.trie_shape.proofs.building.fork_of.Goals as goal
 
 pub returns-in-Ok : goal.returns-in-Ok
-returns-in-Ok c = λ v trees e named used. branch-shown c.in-Ok.closed v trees (c.in-Ok.ensures.shows v trees e named used)
+returns-in-Ok c = λ v trees e children. branch-shown c.in-Ok.closed v trees (c.in-Ok.ensures.shows v trees e children)
 
 pub unreachable-requires : goal.unreachable-requires
 unreachable-requires c =

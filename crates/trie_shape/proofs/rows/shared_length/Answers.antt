@@ -1,7 +1,7 @@
 use Rattle.std.proofs.Common.{ℕ, List, ap, sym, ◌∙◌, length, drop}
 use Rattle.byte_model.specs.Nibbles.{nibbles}
 use Rattle.trie_model.specs.Tree.{common}
-use Rattle.trie_shape.proofs.Shared.{length-common}
+use Rattle.trie_shape.proofs.Prefixes.{length-common}
 use Rattle.trie_shape.proofs.rows.shared_length.Goals as goal
 
 pub returns : goal.returns

@@ -1,16 +1,28 @@
-use Rattle.std.proofs.Common.{IfSome, subst}
-use Rattle.trie_model.specs.Tree.{Tree}
-use Rattle.trie_shape.specs.Shows.{Shows, IsTop}
-use Rattle.trie_shape.proofs.Showing.{name_empty, name_branch, name_closed}
+use Rattle.std.proofs.Common.{None, Some, rules}
+use Rattle.trie_shape.proofs.Shows.{name-shown, name-closed}
 use Rattle.trie_shape.proofs.sub.Sub.name.Goals as goal
 
-pub returns-in-Empty-clause-name : goal.returns-in-Empty-clause-name
-returns-in-Empty-clause-name c = λ tree h. name_empty tree (subst (λ s. Shows s tree) c.in-Empty.is h)
+pub returns-in-Empty-clause-shows : goal.returns-in-Empty-clause-shows
+returns-in-Empty-clause-shows c = name-shown c.args.self (None, 0) (search rules) (search rules)
 
-pub returns-in-Branch-clause-name : goal.returns-in-Branch-clause-name
-returns-in-Branch-clause-name c = λ tree h. name_branch c.in-Branch.digest c.in-Branch.usage tree (subst (λ s. Shows s tree) c.in-Branch.is h)
+pub returns-in-Branch-clause-shows : goal.returns-in-Branch-clause-shows
+returns-in-Branch-clause-shows c = name-shown c.args.self (Some c.in-Branch.digest, c.in-Branch.usage) (search rules) (search rules)
 
-pub returns-in-Ok-Some-clause-name : goal.returns-in-Ok-Some-clause-name
-returns-in-Ok-Some-clause-name c = λ tree h.
-    let shows = subst (λ found. IfSome found (λ closed. (tree : Tree) → Shows c.args.self tree → IsTop closed tree)) c.in-Ok-Some.field-0-is c.in-Ok-Some.ensures.shows in
-    name_closed c.args.self c.in-Ok-Some.closed tree (shows tree h) h c.in_default.not-Empty
+pub returns-in-Ok-Some-clause-digest : goal.returns-in-Ok-Some-clause-digest
+returns-in-Ok-Some-clause-digest c =
+    let none = rw c.in-Ok-Some.field-0-is at c.in-Ok-Some.ensures.none in
+    let written = rw c.in-Ok-Some.field-0-is at c.in-Ok-Some.ensures.written in
+    (name-closed c.args.self c.in-Ok-Some.closed none written).digest
+
+pub returns-in-Ok-Some-clause-used : goal.returns-in-Ok-Some-clause-used
+returns-in-Ok-Some-clause-used c =
+    let none = rw c.in-Ok-Some.field-0-is at c.in-Ok-Some.ensures.none in
+    let written = rw c.in-Ok-Some.field-0-is at c.in-Ok-Some.ensures.written in
+    (name-closed c.args.self c.in-Ok-Some.closed none written).usage
+
+pub returns-in-Ok-Some-clause-shows : goal.returns-in-Ok-Some-clause-shows
+returns-in-Ok-Some-clause-shows c =
+    let none = rw c.in-Ok-Some.field-0-is at c.in-Ok-Some.ensures.none in
+    let written = rw c.in-Ok-Some.field-0-is at c.in-Ok-Some.ensures.written in
+    let named = name-closed c.args.self c.in-Ok-Some.closed none written in
+    name-shown c.args.self (Some c.in-Ok-Some.closed.digest, c.in-Ok-Some.closed.usage) named.digest named.usage

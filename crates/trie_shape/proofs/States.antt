@@ -1,22 +1,26 @@
--- The rows of a whole state.
-use Rattle.std.proofs.Common.{◌≡◌, ℕ, ◌*◌, ◌^◌, ◌<◌, List, [], ◌∷◌, map, length, Option, None, Some, unwrap_or, option_map, refl, sym, ◌∙◌, ap, subst, arith}
+-- The rows of a whole state, and of its places.
+use Rattle.std.proofs.Common.{◌≡◌, ℕ, ◌^◌, ◌<◌, List, [], ◌∷◌, map, Option, None, Some, unwrap_or, option_map, refl, sym, ◌∙◌, ap, subst, arith}
 use Rattle.std.specs.List.{AllByRecursion}
 use Rattle.std.specs.FinMap.{entries}
-use Rattle.std.proofs.lemmas.List.{length-map}
-use Rattle.byte_model.specs.Nibbles.{nibbles, AreBytes, AreNibbles}
-use Rattle.trie_model.specs.State.{State, Row, rows_of, IsPair}
-use Rattle.trie_model.specs.Tree.{Tree, nothing, leaf, branch, extension, tree_of}
-use Rattle.trie_model.specs.Texts.{usage, text, name_of}
+use Rattle.byte_model.specs.Nibbles.{nibbles}
+use Rattle.byte_model.specs.Node as node
+use Rattle.byte_model.specs.Node.{IsShaped, ValueRef as ValueOfRecord}
+use Rattle.byte_model.proofs.Digits.{length-nibbles, AreNibbles-nibbles}
+use Rattle.trie_model.specs.State.{State, Row, rows_of, IsPair, IsState}
+use Rattle.trie_model.specs.Tree.{Tree, nothing, leaf, branch, extension, below, ends_here, tree_of}
+use Rattle.trie_model.specs.Texts.{usage, text, name_of, value_ref}
 use Rattle.trie_model.specs.Root.{zero_digest, root_of, root, total, subtree_at}
+use Rattle.trie_model.proofs.Bounds.{usage-lt}
 use Rattle.trie_model.proofs.Costs.{subtree_at-root}
+use Rattle.trie_model.proofs.Order.{RisingRows, rising-rows_of}
 use Rattle.base_core.specs.declared.hash.Digest.{Digest}
 use Rattle.base_core.specs.PairMaps.{PairMap, IsPairMap}
-use Rattle.trie_shape.specs.Runs.{Rises}
+use Rattle.trie_shape.specs.declared.sub.Sub.{Sub}
 use Rattle.trie_shape.specs.RowsAt.{Lent, rows_at, IsRowAt, AreRowsAt}
-use Rattle.trie_shape.specs.Shows.{IsName}
-use Rattle.trie_shape.proofs.Sorted.{rises-rows_of}
-use Rattle.trie_shape.proofs.Bound.{usage-fits}
-use Rattle.trie_shape.proofs.Branching.{all-fit, length-rows_at}
+use Rattle.trie_shape.specs.Runs.{DoFork}
+use Rattle.trie_shape.specs.Shows.{Shows, MayClose, IsName, child_of}
+use Rattle.trie_shape.proofs.Kept.{kept-below, kept-rows_of, sound-tree_of, shaped-forks}
+use Rattle.trie_shape.proofs.Shows.{may_close}
 
 abbrev Entry : Type 0
 Entry = List ℕ × List ℕ
@@ -35,40 +39,30 @@ pub rows_at-state : (state : State) (rows : List Lent) → lent rows ≡ entries
 unfolding rows_of
 rows_at-state state rows e = rows_at-lent rows ∙ ap from_entries e
 
-length-nibbles : (key : List ℕ) → length (nibbles key) ≡ 2 * length key
-unfolding nibbles
-length-nibbles [] = refl
-length-nibbles (byte ∷ key) = let further = length-nibbles key in omega arith
-
-nibbles-small : (key : List ℕ) → AreBytes key → AreNibbles (nibbles key)
-unfolding nibbles
-nibbles-small [] h = tt
-nibbles-small (byte ∷ key) h = let small = h.0 in (omega arith, (omega arith, nibbles-small key h.1))
-
 each-row : (rows : List Lent) → AllByRecursion IsPair (lent rows) → AllByRecursion (IsRowAt 0) rows
 each-row [] h = tt
 each-row (row ∷ rows) h =
     let long = length-nibbles row.0.now in
     let short = h.0.key_length in
-    (record { deep = omega arith; short = omega arith; nibbles = nibbles-small row.0.now h.0.key; value = h.0.value_length }, each-row rows h.1)
+    (record { deep = omega arith; short = omega arith; nibbles = AreNibbles-nibbles row.0.now h.0.key; value = h.0.value_length }, each-row rows h.1)
 
 module _ (held : PairMap) (rows : List Lent) (is : IsPairMap held) (e : lent rows ≡ entries held.state) where
   pub state-rows : AreRowsAt 0 rows
   state-rows = record {
-    rises = subst Rises (sym (rows_at-state held.state rows e)) (rises-rows_of held.state);
+    rises = subst RisingRows (sym (rows_at-state held.state rows e)) (rising-rows_of held.state);
     each = each-row rows (subst (AllByRecursion IsPair) (sym e) is.pairs);
   }
 
-  pub state-fits : usage (tree_of (rows_at 0 rows)) < 2 ^ 64
-  state-fits =
-      let long = length-rows_at 0 rows in
-      let count = sym (length-map rows (λ (row : Lent). (row.0.now, row.1.now))) ∙ ap length e in
-      let few = is.few in
-      let most = is.most in
-      usage-fits (rows_at 0 rows) (all-fit 0 rows state-rows.each) (omega arith)
-
   whole_tree : tree_of (rows_at 0 rows) ≡ subtree_at held.state []
   whole_tree = ap tree_of (rows_at-state held.state rows e) ∙ sym (subtree_at-root held.state)
+
+  pub state-fits : usage (tree_of (rows_at 0 rows)) < 2 ^ 64
+  state-fits =
+      let few = is.few in
+      let most = is.most in
+      let small = usage-lt held.state (record { pairs = is.pairs; few = omega arith }) [] in
+      let same = ap usage whole_tree in
+      omega arith
 
   pub state-total : (name : Option Digest × ℕ) → IsName name (tree_of (rows_at 0 rows)) → name.1 ≡ total held.state
   state-total name is = is.usage ∙ ap usage whole_tree
@@ -86,3 +80,13 @@ module _ (held : PairMap) (rows : List Lent) (is : IsPairMap held) (e : lent row
 
   pub state-root : (name : Option Digest × ℕ) (zero : Digest) → zero.0 ≡ zero_digest → IsName name (tree_of (rows_at 0 rows)) → (unwrap_or name.0 zero).0 ≡ root held.state
   state-root name zero z is = or_zero name.0 zero z ∙ ap (λ o. unwrap_or o zero_digest) is.digest ∙ sym (root-name (tree_of (rows_at 0 rows))) ∙ ap root_of whole_tree
+
+-- ---- subtrees at the places of a state
+
+pub place-may_close : (state : State) → IsState state → (place : List ℕ) (sub : Sub) → Shows sub (subtree_at state place) → MayClose sub
+unfolding subtree_at
+place-may_close state is place sub h = may_close sub (tree_of (below place (rows_of state))) h (sound-tree_of (below place (rows_of state)) (kept-below place (rows_of state) (kept-rows_of state is)))
+
+pub place-shaped : (state : State) → IsState state → (place : List ℕ) → DoFork (below place (rows_of state)) → (value : Option ValueOfRecord) (kids : ℕ → Option (List ℕ)) → value ≡ option_map value_ref (ends_here (below place (rows_of state)))
+    → ((x : ℕ) → x < 16 → kids x ≡ name_of (child_of (below place (rows_of state)) x) (text (child_of (below place (rows_of state)) x))) → IsShaped (node.branch value kids)
+place-shaped state is place fork = shaped-forks (below place (rows_of state)) (kept-below place (rows_of state) (kept-rows_of state is)) fork

@@ -1,0 +1,192 @@
+-- What subtrees show.
+use Rattle.std.proofs.Common.{◌≡◌, ℕ, ◌+◌, List, [], ◌∷◌, ◌++◌, ◌^◌, ◌<◌, ◌≤◌, Option, None, Some, Result, Ok, is_some, option_map, if◌then◌else◌, IfSome, IfNone, IsSome, refl, sym, ap, ap₂, subst, ◌∙◌, arith}
+use Rattle.sha2.specs.Sha256.{sha256}
+use Rattle.byte_model.specs.Borsh.{borsh_u16, borsh_u64}
+use Rattle.byte_model.specs.Node as node
+use Rattle.byte_model.specs.Node.{Node, IsShaped, longest_value, spelled_children, spelled_value, child_bit, child_digest, spelled, own_cost, ValueRef as ValueOfRecord}
+use Rattle.byte_model.proofs.Below.{sum_below-agree, joined_below-agree}
+use Rattle.trie_model.specs.Grown.{grown}
+use Rattle.trie_model.specs.State.{Row}
+use Rattle.trie_model.specs.Tree.{Tree, nothing, leaf, branch, extension, ends_here, tree_of}
+use Rattle.trie_model.specs.Texts.{text, usage, top_cost, value_ref, name_of}
+use Rattle.trie_model.proofs.Growth.{tree_of-under}
+use Rattle.trie_model.proofs.Rests.{under}
+use Rattle.base_core.specs.declared.hash.Digest.{Digest}
+use Rattle.node_codec.specs.Meanings.{value_of}
+use Rattle.node_codec.specs.declared.value_ref.ValueRef.{ValueRef}
+use Rattle.trie_shape.specs.declared.close_error.CloseError.{CloseError}
+use Rattle.trie_shape.specs.declared.closed.Closed.{Closed}
+use Rattle.trie_shape.specs.declared.sub.Sub.{Sub}
+use Rattle.trie_shape.specs.declared.sub.Sub.TheVariants.{Empty, Leaf, Branch, Extension}
+use Rattle.trie_shape.specs.Shows.{Shows, MayClose, under_of, top_node, usage_of, digest_of, IsRecord, IsTop, IsName, child_of, AreChildren}
+use Rattle.trie_shape.specs.Runs.{DoFork}
+use Rattle.trie_shape.proofs.Kept.{IsSound, tree-forks}
+
+-- ---- the four ways to show a trie
+
+record ByKind (P : Sub → Tree → Type 0) : Type 0 where
+  empty : P Empty nothing
+  one : (path v : List ℕ) (value : ValueRef) → value_of value ≡ value_ref v → P (Leaf path value) (leaf path v)
+  forks : (digest : Digest) (used : ℕ) (v : Option (List ℕ)) (kids : ℕ → Tree) → digest.0 ≡ sha256 (text (branch v kids)) → used ≡ usage (branch v kids) → P (Branch digest used) (branch v kids)
+  shares : (path : List ℕ) (child : Digest) (used : ℕ) (tree : Tree) → child.0 ≡ sha256 (text tree) → used ≡ usage tree → P (Extension path child used) (extension path tree)
+
+by_kind : (P : Sub → Tree → Type 0) → ByKind P → (sub : Sub) (tree : Tree) → Shows sub tree → P sub tree
+by_kind P cases Empty nothing h = cases.empty
+by_kind P cases (Leaf path value) (leaf p v) h = subst (λ (q : List ℕ). P (Leaf path value) (leaf q v)) h.0 (cases.one path v value h.1)
+by_kind P cases (Branch digest used) (branch v kids) h = cases.forks digest used v kids h.0 h.1
+by_kind P cases (Extension path child used) (extension p tree) h = subst (λ (q : List ℕ). P (Extension path child used) (extension q tree)) h.0 (cases.shares path child used tree h.1 h.2)
+by_kind P cases Empty (leaf p v) h = absurd h
+by_kind P cases Empty (branch v kids) h = absurd h
+by_kind P cases Empty (extension p t) h = absurd h
+by_kind P cases (Leaf path value) nothing h = absurd h
+by_kind P cases (Leaf path value) (branch v kids) h = absurd h
+by_kind P cases (Leaf path value) (extension p t) h = absurd h
+by_kind P cases (Branch digest used) nothing h = absurd h
+by_kind P cases (Branch digest used) (leaf p v) h = absurd h
+by_kind P cases (Branch digest used) (extension p t) h = absurd h
+by_kind P cases (Extension path child used) nothing h = absurd h
+by_kind P cases (Extension path child used) (leaf p v) h = absurd h
+by_kind P cases (Extension path child used) (branch v kids) h = absurd h
+
+-- ---- nibbles put before it
+
+under_branch : (nibbles : List ℕ) (digest : Digest) (used : ℕ) (v : Option (List ℕ)) (kids : ℕ → Tree) → digest.0 ≡ sha256 (text (branch v kids)) → used ≡ usage (branch v kids) → Shows (under_of nibbles (Branch digest used)) (grown nibbles (branch v kids))
+unfolding grown
+under_branch [] digest used v kids named uses = (named, uses)
+under_branch (x ∷ nibbles) digest used v kids named uses = (refl, named, uses)
+
+under-shown : (nibbles : List ℕ) (self : Sub) (tree : Tree) → Shows self tree → Shows (under_of nibbles self) (grown nibbles tree)
+unfolding grown
+under-shown nibbles = by_kind (λ self tree. Shows (under_of nibbles self) (grown nibbles tree)) (record {
+  empty = tt;
+  one = λ path v value named. (refl, named);
+  forks = under_branch nibbles;
+  shares = λ path child used tree named uses. (refl, named, uses);
+})
+
+pub shown-under : (nibbles : List ℕ) (self sub : Sub) → sub ≡ under_of nibbles self → (tree : Tree) → Shows self tree → Shows sub (grown nibbles tree)
+shown-under nibbles self sub e tree h = subst (λ s. Shows s (grown nibbles tree)) (sym e) (under-shown nibbles self tree h)
+
+pub shown-under_rows : (nibbles : List ℕ) (self sub : Sub) → sub ≡ under_of nibbles self → (rows : List Row) → Shows self (tree_of rows) → Shows sub (tree_of (under nibbles rows))
+shown-under_rows nibbles self sub e rows h = subst (Shows sub) (sym (tree_of-under nibbles rows)) (shown-under nibbles self sub e (tree_of rows) h)
+
+-- ---- its usage, and the digest that names it
+
+pub usage-shown : (self : Sub) (tree : Tree) → Shows self tree → usage_of self ≡ usage tree
+unfolding own_cost usage top_cost
+usage-shown = by_kind (λ self tree. usage_of self ≡ usage tree) (record {
+  empty = refl;
+  one = λ path v value named. ap (λ (r : ValueOfRecord). own_cost (node.leaf path r)) named;
+  forks = λ digest used v kids named uses. uses;
+  shares = λ path child used tree named uses. ap (λ n. own_cost (node.extension path child.0) + n) uses;
+})
+
+pub digest-shown : (self : Sub) (tree : Tree) → Shows self tree → digest_of self ≡ name_of tree (text tree)
+unfolding own_cost usage top_cost text name_of
+digest-shown = by_kind (λ self tree. digest_of self ≡ name_of tree (text tree)) (record {
+  empty = refl;
+  one = λ path v value named. ap (λ (r : ValueOfRecord). Some (sha256 (spelled (node.leaf path r) (own_cost (node.leaf path r))))) named;
+  forks = λ digest used v kids named uses. ap Some named;
+  shares = λ path child used tree named uses. ap₂ (λ (d : List ℕ) (n : ℕ). Some (sha256 (spelled (node.extension path d) (own_cost (node.extension path d) + n)))) named uses;
+})
+
+pub name-shown : (self : Sub) (name : Option Digest × ℕ) → option_map (λ d. d.0) name.0 ≡ digest_of self → name.1 ≡ usage_of self → (tree : Tree) → Shows self tree → IsName name tree
+name-shown self name named uses tree h = record { digest = named ∙ digest-shown self tree h; usage = uses ∙ usage-shown self tree h }
+
+-- ---- the record of its top
+
+no_top : IsSome (top_node Empty) → ⊥
+no_top some = cc
+
+pub top-shown : (self : Sub) (closed : Closed) (tree : Tree) → IfSome (top_node self) (λ node. IsRecord closed node (usage_of self)) → IsSome (top_node self) → Shows self tree → IsTop closed tree
+unfolding own_cost usage top_cost text
+top-shown self closed tree written some h = by_kind (λ self tree. IfSome (top_node self) (λ node. IsRecord closed node (usage_of self)) → IsSome (top_node self) → IsTop closed tree) (record {
+  empty = λ written some. absurd (no_top some);
+  one = λ path v value named written some. record {
+    text = written.text ∙ ap (λ (r : ValueOfRecord). spelled (node.leaf path r) (own_cost (node.leaf path r))) named;
+    digest = written.digest;
+    usage = written.usage ∙ ap (λ (r : ValueOfRecord). own_cost (node.leaf path r)) named;
+  };
+  forks = λ digest used v kids named uses written some. absurd (no_top some);
+  shares = λ path child used tree named uses written some. record {
+    text = written.text ∙ ap₂ (λ (d : List ℕ) (n : ℕ). spelled (node.extension path d) (own_cost (node.extension path d) + n)) named uses;
+    digest = written.digest;
+    usage = written.usage ∙ ap (λ (n : ℕ). own_cost (node.extension path child.0) + n) uses;
+  };
+}) self tree h written some
+
+pub record IsNamed (self : Sub) (closed : Closed) : Type 0 where
+  pub digest : Some closed.digest.0 ≡ digest_of self
+  pub usage : closed.usage ≡ usage_of self
+
+abbrev IsAbsent : Closed → Type 0
+IsAbsent closed = let result : Result (Option Closed) CloseError = Ok (Some closed) in result ≡ Ok None
+
+not_absent : (closed : Closed) → IsAbsent closed → ⊥
+not_absent closed absent = cc
+
+-- what is closed is named by its record
+pub name-closed : (self : Sub) (closed : Closed) → IfNone (top_node self) (IsAbsent closed) → IfSome (top_node self) (λ node. IsRecord closed node (usage_of self)) → IsNamed self closed
+name-closed Empty closed none written = absurd (not_absent closed none)
+name-closed (Branch digest used) closed none written = absurd (not_absent closed none)
+name-closed (Leaf path value) closed none written = record { digest = ap Some (written.digest ∙ ap sha256 written.text); usage = written.usage }
+name-closed (Extension path child used) closed none written = record { digest = ap Some (written.digest ∙ ap sha256 written.text); usage = written.usage }
+
+-- ---- whether that may be written
+
+no_node : (n : Node) → None ≡ Some n → IsShaped n
+no_node n e = cc
+
+one_node : (n other : Node) → IsShaped n → Some n ≡ Some other → IsShaped other
+one_node n other h e = let same : n ≡ other = cc in subst IsShaped same h
+
+pub may_close : (self : Sub) (tree : Tree) → Shows self tree → IsSound tree → MayClose self
+may_close = by_kind (λ self tree. IsSound tree → MayClose self) (record {
+  empty = λ sound. record { nibbles = tt; short = omega arith; shaped = no_node };
+  one = λ path v value named sound. record {
+    nibbles = sound.0;
+    short = sound.1;
+    shaped = λ other. one_node (node.leaf path (value_of value)) other (subst (λ (r : ValueOfRecord). r.length ≤ longest_value) (sym named) sound.2);
+  };
+  forks = λ digest used v kids named uses sound. record { nibbles = tt; short = omega arith; shaped = no_node };
+  shares = λ path child used tree named uses sound. record { nibbles = sound.0; short = sound.1; shaped = λ other. one_node (node.extension path child.0) other sound.2 };
+})
+
+-- ---- the record of a branch
+
+spelled_children-agree : (kids others : ℕ → Option (List ℕ)) → ((x : ℕ) → x < 16 → kids x ≡ others x) → spelled_children kids ≡ spelled_children others
+unfolding spelled_children
+spelled_children-agree kids others same =
+    ap₂ (λ (bits : ℕ) (digests : List ℕ). borsh_u16 bits ++ digests)
+    (sum_below-agree (child_bit kids) (child_bit others) 16 (λ x h. ap (λ (child : Option (List ℕ)). if is_some child then 2 ^ x else 0) (same x h)))
+    (joined_below-agree (λ x. child_digest (kids x)) (λ x. child_digest (others x)) 16 (λ x h. ap child_digest (same x h)))
+
+spelled-branch : (value : Option ValueOfRecord) (kids others : ℕ → Option (List ℕ)) (used : ℕ) → ((x : ℕ) → x < 16 → kids x ≡ others x) → spelled (node.branch value kids) used ≡ spelled (node.branch value others) used
+unfolding spelled
+spelled-branch None kids others used same = ap (λ (bytes : List ℕ). 1 ∷ bytes ++ borsh_u64 used) (spelled_children-agree kids others same)
+spelled-branch (Some value) kids others used same = ap (λ (bytes : List ℕ). 2 ∷ spelled_value value ++ bytes ++ borsh_u64 used) (spelled_children-agree kids others same)
+
+pub branch_cost : (v : Option (List ℕ)) (kids : ℕ → Option (List ℕ)) (trees : ℕ → Tree) → own_cost (node.branch (option_map value_ref v) kids) ≡ top_cost (branch v trees)
+unfolding own_cost top_cost
+branch_cost None kids trees = refl
+branch_cost (Some v) kids trees = refl
+
+pub branch_top : (closed : Closed) (value : Option ValueOfRecord) (kids : ℕ → Option (List ℕ)) (kids_usage : ℕ) → IsRecord closed (node.branch value kids) (own_cost (node.branch value kids) + kids_usage)
+    → (v : Option (List ℕ)) (trees : ℕ → Tree) → value ≡ option_map value_ref v → AreChildren kids kids_usage trees → IsTop closed (branch v trees)
+unfolding text usage
+branch_top closed value kids kids_usage written v trees names children =
+    let others = λ (x : ℕ). name_of (trees x) (text (trees x)) in
+    let cost : own_cost (node.branch value kids) + kids_usage ≡ usage (branch v trees) = ap₂ (λ (a b : ℕ). a + b) (ap (λ (r : Option ValueOfRecord). own_cost (node.branch r kids)) names ∙ branch_cost v kids trees) children.together in
+    record {
+      text = written.text ∙ ap₂ (λ (r : Option ValueOfRecord) (u : ℕ). spelled (node.branch r kids) u) names cost ∙ spelled-branch (option_map value_ref v) kids others (usage (branch v trees)) children.named;
+      digest = written.digest;
+      usage = written.usage ∙ cost;
+    }
+
+pub rows_top : (closed : Closed) (value : Option ValueOfRecord) (kids : ℕ → Option (List ℕ)) (kids_usage : ℕ) → IsRecord closed (node.branch value kids) (own_cost (node.branch value kids) + kids_usage)
+    → (rows : List Row) → DoFork rows → value ≡ option_map value_ref (ends_here rows) → AreChildren kids kids_usage (child_of rows) → IsTop closed (tree_of rows)
+rows_top closed value kids kids_usage written rows fork ends children = subst (IsTop closed) (sym (tree-forks rows fork)) (branch_top closed value kids kids_usage written (ends_here rows) (child_of rows) ends children)
+
+-- a branch whose record is written
+pub branch-shown : (closed : Closed) (v : Option (List ℕ)) (trees : ℕ → Tree) → IsTop closed (branch v trees) → Shows (Branch closed.digest closed.usage) (branch v trees)
+branch-shown closed v trees top = (top.digest ∙ ap sha256 top.text, top.usage)
