@@ -10,13 +10,14 @@ use Rattle.byte_model.specs.Node as node
 use Rattle.byte_model.specs.Node.{Node, IsShaped, child_count, longest_value, ValueRef as ValueOfRecord}
 use Rattle.byte_model.specs.Laws.{FitsRecord}
 use Rattle.byte_model.proofs.Digits.{length-nibbles}
+use Rattle.trie_model.specs.Grown.{AllHavePrefix}
 use Rattle.trie_model.specs.State.{State, Row, IsPair, IsState, rows_of}
 use Rattle.trie_model.specs.Tree.{Tree, nothing, leaf, branch, extension, below, ends_here, common_prefix, tree_of}
 use Rattle.trie_model.specs.Texts.{node_of, text, name_of, value_ref}
 use Rattle.byte_model.proofs.Below.{sum_below-agree}
 use Rattle.trie_model.proofs.Order.{RisingRows, rising-below, rising-rows_of, all-below}
 use Rattle.trie_model.proofs.Pairs.{Small, small-below, small-rows_of}
-use Rattle.trie_model.proofs.Rests.{AllHavePrefix, common_prefix-all}
+use Rattle.trie_model.proofs.Rests.{common_prefix-all}
 use Rattle.trie_model.proofs.Shapes.{ShortValues, short-below, short-rows_of, sound_nodes}
 use Rattle.trie_model.proofs.Trees.{length-rest_behind, tree_of-nil, tree_of-one, tree_of-forks, tree_of-shares}
 use Rattle.trie_model.proofs.Worked.{Pair, rows_of_pairs}

@@ -6,10 +6,10 @@ use Rattle.std.proofs.lemmas.List.{length-take-le}
 use Rattle.trie_model.specs.State.{Row}
 use Rattle.trie_model.specs.Tree.{rest_behind, below, common, tree_of}
 use Rattle.byte_model.proofs.Lists.{first_same, rest_same}
-use Rattle.trie_model.specs.Grown.{grown}
+use Rattle.trie_model.specs.Grown.{grown, under, AllHavePrefix}
 use Rattle.trie_model.proofs.Growth.{common_prefix-under, tree_of-prefix}
 use Rattle.trie_model.proofs.Order.{RisingRows, rising-below}
-use Rattle.trie_model.proofs.Rests.{under, under-below, common_prefix-all, AllHavePrefix, rest_behind-prefix, same_nibble, equal_of_test}
+use Rattle.trie_model.proofs.Rests.{under-below, common_prefix-all, rest_behind-prefix, same_nibble, equal_of_test}
 use Rattle.trie_shape.specs.Runs.{prefix_of}
 
 -- ---- the length of what two paths share

@@ -3,6 +3,7 @@ use Rattle.std.proofs.Common.{◌≡◌, ℕ, zero, suc, ◌<◌, ◌≤◌, ◌
 use Rattle.std.proofs.lemmas.Bool.{cases_eq}
 use Rattle.std.proofs.lemmas.Bool.Decides.{nat_tests}
 use Rattle.std.specs.List.{AllByRecursion}
+use Rattle.byte_model.proofs.Lists.{AllByRecursion-weaker}
 use Rattle.trie_model.specs.State.{Row}
 use Rattle.trie_model.specs.Tree.{rest_behind, below, ends_here}
 use Rattle.trie_model.proofs.Rests.{equal_of_test}
@@ -41,10 +42,6 @@ some_nibble : (p q : List ℕ) → Before p q → StartsFrom 0 q
 some_nibble [] [] h = cc
 some_nibble (x ∷ p) [] h = cc
 some_nibble p (y ∷ q) h = omega arith
-
-AllByRecursion-weaker : (P Q : Row → Type 0) → ((row : Row) → P row → Q row) → (rows : List Row) → AllByRecursion P rows → AllByRecursion Q rows
-AllByRecursion-weaker P Q weaker [] h = tt
-AllByRecursion-weaker P Q weaker (x ∷ xs) h = (weaker x h.0, AllByRecursion-weaker P Q weaker xs h.1)
 
 -- ---- the row that ends here
 

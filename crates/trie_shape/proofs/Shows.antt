@@ -5,12 +5,11 @@ use Rattle.byte_model.specs.Borsh.{borsh_u16, borsh_u64}
 use Rattle.byte_model.specs.Node as node
 use Rattle.byte_model.specs.Node.{Node, IsShaped, longest_value, spelled_children, spelled_value, child_bit, child_digest, spelled, own_cost, ValueRef as ValueOfRecord}
 use Rattle.byte_model.proofs.Below.{sum_below-agree, joined_below-agree}
-use Rattle.trie_model.specs.Grown.{grown}
+use Rattle.trie_model.specs.Grown.{grown, under}
 use Rattle.trie_model.specs.State.{Row}
 use Rattle.trie_model.specs.Tree.{Tree, nothing, leaf, branch, extension, ends_here, tree_of}
 use Rattle.trie_model.specs.Texts.{text, usage, top_cost, value_ref, name_of}
 use Rattle.trie_model.proofs.Growth.{tree_of-under}
-use Rattle.trie_model.proofs.Rests.{under}
 use Rattle.base_core.specs.declared.hash.Digest.{Digest}
 use Rattle.node_codec.specs.Meanings.{value_of}
 use Rattle.node_codec.specs.declared.value_ref.ValueRef.{ValueRef}

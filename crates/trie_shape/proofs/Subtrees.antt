@@ -5,13 +5,12 @@ use Rattle.std.proofs.lemmas.List.{length-append, length-drop, drop-drop}
 use Rattle.std.proofs.Math.Seq.{take-append_seam}
 use Rattle.byte_model.specs.Nibbles.{nibbles}
 use Rattle.byte_model.specs.PackedPath.{longest_path}
-use Rattle.trie_model.specs.Grown.{grown}
+use Rattle.trie_model.specs.Grown.{grown, AllHavePrefix}
 use Rattle.trie_model.specs.State.{Row}
 use Rattle.trie_model.specs.Tree.{Tree, leaf, branch, common, tree_of}
 use Rattle.trie_model.specs.Texts.{usage}
 use Rattle.trie_model.proofs.Growth.{last_row, common_prefix-rising}
 use Rattle.trie_model.proofs.Order.{RisingRows}
-use Rattle.trie_model.proofs.Rests.{AllHavePrefix}
 use Rattle.trie_model.proofs.Trees.{tree_of-nil, tree_of-one}
 use Rattle.trie_shape.specs.declared.sub.Sub.{Sub}
 use Rattle.trie_shape.specs.declared.sub.Sub.TheVariants.{Empty}

@@ -3,10 +3,9 @@ ghost use Rattle.std.specs.Option.{ForSome};
 ghost use Rattle.byte_model.specs.Nibbles.{AreNibbles};
 ghost use Rattle.byte_model.specs.PackedPath.{longest_path};
 ghost use Rattle.byte_model.specs.Node.{IsShaped};
-ghost use Rattle.trie_model.specs.Grown.{grown};
+ghost use Rattle.trie_model.specs.Grown.{grown, under};
 ghost use Rattle.trie_model.specs.State.{Row};
 ghost use Rattle.trie_model.specs.Tree.{Tree, tree_of};
-ghost use Rattle.trie_model.proofs.Rests.{under};
 
 use crate::close_error::CloseError;
 use crate::closed::Closed;
