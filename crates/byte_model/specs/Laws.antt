@@ -1,11 +1,11 @@
 -- What the laws over the definitions speak of.
 use Rattle.std.specs.Prelude.{◌≡◌, ◌^◌, ◌<◌, ℕ, List, length, IfSome}
 use Rattle.byte_model.specs.Nibbles.{AreNibbles}
-use Rattle.byte_model.specs.Node.{ValueRef, Node, leaf, branch, extension}
+use Rattle.byte_model.specs.Node.{digest_width, ValueRef, Node, leaf, branch, extension}
 
--- a digest has 32 bytes
+-- the bytes are as many as those of a digest
 abbrev pub IsDigest : List ℕ → Type 0
-IsDigest digest = length digest ≡ 32
+IsDigest digest = length digest ≡ digest_width
 
 -- the length fits four bytes
 abbrev pub NamesValue : ValueRef → Type 0

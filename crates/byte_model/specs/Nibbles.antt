@@ -6,6 +6,10 @@ unfoldable pub nibbles : List ℕ → List ℕ
 nibbles [] = []
 nibbles (byte ∷ key) = byte / 16 ∷ byte % 16 ∷ nibbles key
 
+-- the most bytes that a key may have: a column, an account id, a separator and a rest
+abbrev pub longest_key : ℕ
+longest_key = 2114
+
 -- each is below 16
 abbrev pub AreNibbles : List ℕ → Type 0
 AreNibbles path = AllByRecursion (λ nibble. nibble < 16) path

@@ -5,7 +5,11 @@ use Rattle.byte_model.specs.Borsh.{borsh_u16, borsh_u32, borsh_u64, borsh_bytes}
 use Rattle.byte_model.specs.PackedPath.{packed}
 use Rattle.byte_model.specs.Below.{sum_below, joined_below}
 
--- how a node names a value: how many bytes it has, and their SHA-256
+-- how many bytes a digest has, which is a SHA-256
+abbrev pub digest_width : ℕ
+digest_width = 32
+
+-- how a node names a value: how many bytes it has, and their digest
 pub record ValueRef : Type 0 where
   pub length : ℕ
   pub digest : List ℕ

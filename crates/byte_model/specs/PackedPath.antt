@@ -1,6 +1,7 @@
 -- A path of nibbles as bytes (after nearcore): a first byte with two flags, and then two nibbles to a byte.
 -- The flag 0x20 says that the path ends at a leaf. The flag 0x10 says that the number of nibbles is odd, and then the first of them is the low half of the first byte. That half is 0 where the number is even.
 use Rattle.std.specs.Prelude.{ℕ, ◌+◌, ◌*◌, ◌%◌, ◌==◌, Bool, true, false, List, [], ◌∷◌, length, if◌then◌else◌}
+use Rattle.byte_model.specs.Nibbles.{longest_key}
 
 abbrev pub leaf_flag : ℕ
 leaf_flag = 0x20
@@ -8,9 +9,9 @@ leaf_flag = 0x20
 abbrev pub odd_flag : ℕ
 odd_flag = 0x10
 
--- the longest path in a record: that of the longest key, 2,114 bytes
+-- the most nibbles that a path may have: those of the longest key
 abbrev pub longest_path : ℕ
-longest_path = 4228
+longest_path = 2 * longest_key
 
 -- two nibbles to a byte, the first of them high
 unfoldable pub two_to_a_byte : List ℕ → List ℕ

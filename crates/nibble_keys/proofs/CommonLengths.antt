@@ -52,12 +52,12 @@ common-whole left right xs ys p q h k n xs_is ys_is p_is q_is common =
     subst P ys_are (subst Q xs_are common)
 
 -- a view that begins at a low nibble: that nibble, and then whole bytes
-view-half : (key path : List ℕ) (place h : ℕ) → drop place (nibbles key) ≡ path → place + 1 ≡ 2 * h → h ≤ length key → path ≡ get_or path 0 0 ∷ nibbles (drop h key)
-view-half key path place h is odd within =
-    let inside : place < length (nibbles key) = omega (arith, length-nibbles key) in
-    let split : drop place (nibbles key) ≡ get_or (nibbles key) place 0 ∷ drop (place + 1) (nibbles key) = drop_more (nibbles key) place 0 inside in
-    let rest : drop (place + 1) (nibbles key) ≡ nibbles (drop h key) = ap (λ i. drop i (nibbles key)) odd ∙ drop-nibbles key h in
-    let whole : path ≡ get_or (nibbles key) place 0 ∷ nibbles (drop h key) = sym is ∙ (split ∙ ap (λ back. get_or (nibbles key) place 0 ∷ back) rest) in
+view-half : (key path : List ℕ) (index h : ℕ) → drop index (nibbles key) ≡ path → index + 1 ≡ 2 * h → h ≤ length key → path ≡ get_or path 0 0 ∷ nibbles (drop h key)
+view-half key path index h is odd within =
+    let inside : index < length (nibbles key) = omega (arith, length-nibbles key) in
+    let split : drop index (nibbles key) ≡ get_or (nibbles key) index 0 ∷ drop (index + 1) (nibbles key) = drop_more (nibbles key) index 0 inside in
+    let rest : drop (index + 1) (nibbles key) ≡ nibbles (drop h key) = ap (λ i. drop i (nibbles key)) odd ∙ drop-nibbles key h in
+    let whole : path ≡ get_or (nibbles key) index 0 ∷ nibbles (drop h key) = sym is ∙ (split ∙ ap (λ back. get_or (nibbles key) index 0 ∷ back) rest) in
     whole ∙ ap (λ nibble. nibble ∷ nibbles (drop h key)) (sym (ap (λ p. get_or p 0 0) whole))
 
 -- two views of keys that both begin at a low nibble

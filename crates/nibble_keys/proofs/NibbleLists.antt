@@ -1,4 +1,4 @@
--- Laws of `nibbles` by place.
+-- The nibbles of a key by their index.
 use Rattle.std.proofs.Common.{ℕ, zero, suc, ◌+◌, ◌-◌, ◌*◌, ◌/◌, ◌%◌, ◌≡◌, List, [], ◌∷◌, length, take, drop, get_or, refl, ap, sym, ◌∙◌, arith, length-drop}
 use Rattle.std.proofs.lemmas.List.{get_or-drop}
 use Rattle.byte_model.specs.Nibbles.{nibbles}
@@ -35,20 +35,20 @@ get_or-nibbles_low (byte ∷ key) zero = refl
 get_or-nibbles_low (byte ∷ key) (suc i) =
     let e : 2 * suc i + 1 ≡ suc (suc (2 * i + 1)) = omega arith in rw e (get_or-nibbles_low key i)
 
--- the nibble at any place
-pub get_or-nibbles_even : (key : List ℕ) (place : ℕ) → place % 2 ≡ 0 → get_or (nibbles key) place 0 ≡ get_or key (place / 2) 0 / 16
-get_or-nibbles_even key place even =
-    let half : place ≡ 2 * (place / 2) = omega arith in
-    ap (λ n. get_or (nibbles key) n 0) half ∙ get_or-nibbles_high key (place / 2)
+-- the nibble at any index
+pub get_or-nibbles_even : (key : List ℕ) (index : ℕ) → index % 2 ≡ 0 → get_or (nibbles key) index 0 ≡ get_or key (index / 2) 0 / 16
+get_or-nibbles_even key index even =
+    let half : index ≡ 2 * (index / 2) = omega arith in
+    ap (λ n. get_or (nibbles key) n 0) half ∙ get_or-nibbles_high key (index / 2)
 
-pub get_or-nibbles_odd : (key : List ℕ) (place : ℕ) → place % 2 ≡ 1 → get_or (nibbles key) place 0 ≡ get_or key (place / 2) 0 % 16
-get_or-nibbles_odd key place odd =
-    let half : place ≡ 2 * (place / 2) + 1 = omega arith in
-    ap (λ n. get_or (nibbles key) n 0) half ∙ get_or-nibbles_low key (place / 2)
+pub get_or-nibbles_odd : (key : List ℕ) (index : ℕ) → index % 2 ≡ 1 → get_or (nibbles key) index 0 ≡ get_or key (index / 2) 0 % 16
+get_or-nibbles_odd key index odd =
+    let half : index ≡ 2 * (index / 2) + 1 = omega arith in
+    ap (λ n. get_or (nibbles key) n 0) half ∙ get_or-nibbles_low key (index / 2)
 
--- what is left of a key from a place on, which a view of it is
-pub length-view : (key path : List ℕ) (place : ℕ) → drop place (nibbles key) ≡ path → length path ≡ 2 * length key - place
-length-view key path place is = sym (ap length is) ∙ simp (length-drop, length-nibbles)
+-- what is left of a key from an index on, which a view of it is
+pub length-view : (key path : List ℕ) (index : ℕ) → drop index (nibbles key) ≡ path → length path ≡ 2 * length key - index
+length-view key path index is = sym (ap length is) ∙ simp (length-drop, length-nibbles)
 
-pub get_or-view : (key path : List ℕ) (place i : ℕ) → drop place (nibbles key) ≡ path → get_or (nibbles key) (place + i) 0 ≡ get_or path i 0
-get_or-view key path place i is = sym (get_or-drop place (nibbles key) i 0) ∙ ap (λ p. get_or p i 0) is
+pub get_or-view : (key path : List ℕ) (index i : ℕ) → drop index (nibbles key) ≡ path → get_or (nibbles key) (index + i) 0 ≡ get_or path i 0
+get_or-view key path index i is = sym (get_or-drop index (nibbles key) i 0) ∙ ap (λ p. get_or p i 0) is

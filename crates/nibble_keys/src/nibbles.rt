@@ -5,11 +5,11 @@ ghost use Rattle.nibble_keys.specs.CommonLength.{IsCommonLength};
 use std::marker::Model;
 
 /// A key as nibbles, two for each byte and the high one first, from some nibble on. It takes no
-/// memory, and all of its lengths and places are in nibbles.
+/// memory, and all of its lengths and indexes are in nibbles.
 #[derive(Debug, Drop)]
 pub struct Nibbles<'a> {
     key: &'a [u8],
-    place: u64,
+    start: u64,
 }
 
 impl<'a> Model for Nibbles<'a> {
@@ -18,9 +18,9 @@ impl<'a> Model for Nibbles<'a> {
 
     ghost Value = { List ℕ };
 
-    ghost view = { λ path. drop path.place (nibbles path.key.now) };
+    ghost view = { λ path. drop path.start (nibbles path.key.now) };
 
-    ghost invariant = { λ path. path.place ≤ 2 * length path.key.now };
+    ghost invariant = { λ path. path.start ≤ 2 * length path.key.now };
 }
 
 impl<'a> Nibbles<'a> {
@@ -28,13 +28,13 @@ impl<'a> Nibbles<'a> {
     pub fn new(key: &'a [u8]) -> Nibbles<'a>
         ensures { result ≡ nibbles key.now }
     {
-        Nibbles { key, place: 0 }
+        Nibbles { key, start: 0 }
     }
 
     pub fn len(&self) -> u64
         ensures { result ≡ length self.now }
     {
-        2 * self.key.len() as u64 - self.place
+        2 * self.key.len() as u64 - self.start
     }
 
     pub fn at(&self, i: u64) -> u8
@@ -42,19 +42,19 @@ impl<'a> Nibbles<'a> {
         ensures value { result ≡ slice_index self.now i }
         ensures nibble { result < 16 }
     {
-        let place = self.place + i;
-        let byte = self.key[(place / 2) as usize];
-        if place % 2 == 0 { byte / 16 } else { byte % 16 }
+        let index = self.start + i;
+        let byte = self.key[(index / 2) as usize];
+        if index % 2 == 0 { byte / 16 } else { byte % 16 }
     }
 
-    /// The nibbles from a place on.
+    /// The nibbles from an index on.
     pub fn rest(&self, from: u64) -> Nibbles<'a>
         requires { from ≤ length self.now }
         ensures { result ≡ drop from self.now }
     {
         Nibbles {
             key: self.key,
-            place: self.place + from,
+            start: self.start + from,
         }
     }
 
@@ -63,12 +63,12 @@ impl<'a> Nibbles<'a> {
     pub fn common(&self, other: &Nibbles<'_>) -> u64
         ensures { IsCommonLength self.now other.now result }
     {
-        let low = self.place % 2;
-        if low != other.place % 2 {
+        let low = self.start % 2;
+        if low != other.start % 2 {
             return self.common_by_nibble(other);
         }
-        let left = &self.key[self.place.div_ceil(2) as usize..];
-        let right = &other.key[other.place.div_ceil(2) as usize..];
+        let left = &self.key[self.start.div_ceil(2) as usize..];
+        let right = &other.key[other.start.div_ceil(2) as usize..];
         if low == 0 {
             common_of_keys(left, right)
         } else if self.at(0) == other.at(0) {

@@ -53,7 +53,7 @@ impl<'a> Packed<'a> {
         self.path.len()
     }
 
-    /// The nibble at a place, counted from 0.
+    /// The nibble at an index, counted from 0.
     pub fn at(&self, i: u64) -> u8
         requires { i < length self.now }
         ensures value { result ≡ slice_index self.now i }

@@ -1,4 +1,4 @@
--- The children of a branch, one place after another.
+-- The children of a branch, one nibble after another.
 use Rattle.std.proofs.Common.{ℕ, zero, suc, ◌+◌, ◌*◌, ◌%◌, ◌^◌, ◌<◌, ◌≤◌, ◌≡◌, Bool, true, false, cond, List, ◌++◌, length, take, get_or, Option, None, Some, refl, ap, sym, ◌∙◌, arith, bit_or}
 use Rattle.std.specs.Option.{is_some, option_map}
 use Rattle.std.specs.List.{count_by}

@@ -10,7 +10,7 @@ use Rattle.node_codec.specs.declared.node.Node.TheVariants.{Leaf, Branch, Extens
 abbrev pub value_of : ValueRef → ValueOfRecord
 value_of value = record { length = value.length; digest = value.digest.0 }
 
--- the bytes of the digest at each place, and nothing past the last one
+-- the bytes of the digest at each index, and nothing past the last one
 abbrev pub children_in : List (Option Digest) → ℕ → Option (List ℕ)
 children_in kids i = option_map (λ digest. digest.0) (slice_index_or kids i None)
 

@@ -3,7 +3,7 @@ ghost use Rattle.record_model.specs.Fields.{bytes_at, digests_at};
 ghost use Rattle.record_model.specs.Records.{value_at, children_at, leaf_at, branch_at, branch_with_value_at, extension_at, kind_at, layout_at, layout_of};
 ghost use Rattle.base_core.specs.Reading.{Answers, Follows};
 ghost use Rattle.node_codec.specs.Meanings.{value_of};
-ghost use Rattle.node_codec.specs.Layouts.{layout_seen, children_pair};
+ghost use Rattle.node_codec.specs.Layouts.{layout_viewed, children_pair};
 
 use crate::kids_view::{KidsView, bit_count};
 use crate::ordinals::{BRANCH, BRANCH_WITH_VALUE, EXTENSION, LEAF};
@@ -33,34 +33,34 @@ pub(crate) enum Layout<'a> {
 /// The fields of a record, and the usage that it states.
 #[tactic(auto, unfolding(record_model::specs::Records::layout_of, record_model::specs::Records::layout_at, record_model::specs::Fields::end_of))]
 pub(crate) fn read_layout(bytes: &[u8]) -> Result<(Layout<'_>, u64), BorshError>
-    ensures { Answers (λ r. (layout_seen r.0, r.1)) result (layout_of bytes.now) }
+    ensures { Answers (λ r. (layout_viewed r.0, r.1)) result (layout_of bytes.now) }
 {
     let mut reader = Reader::new(bytes);
-    let place = reader.place();
+    let at = reader.place();
     let kind = reader.u8()?;
-    let layout = read_kind(&mut reader, place, kind)?;
+    let layout = read_kind(&mut reader, at, kind)?;
     let usage = reader.u64()?;
     reader.end()?;
     Ok((layout, usage))
 }
 
-/// The fields behind the ordinal of a kind, which stands at a place.
+/// The fields behind the ordinal of a kind, which stands at this offset.
 #[tactic(auto, unfolding(record_model::specs::Records::kind_at))]
-fn read_kind<'a>(reader: &mut Reader<'a>, place: u64, kind: u8) -> Result<Layout<'a>, BorshError>
-    ensures { Follows layout_seen result reader.old reader.new (kind_at place kind) }
+fn read_kind<'a>(reader: &mut Reader<'a>, at: u64, kind: u8) -> Result<Layout<'a>, BorshError>
+    ensures { Follows layout_viewed result reader.old reader.new (kind_at at kind) }
 {
     match kind {
         LEAF => read_leaf(reader),
         BRANCH => read_branch(reader),
         BRANCH_WITH_VALUE => read_branch_with_value(reader),
         EXTENSION => read_extension(reader),
-        _ => Err(BorshError::Ordinal { at: place }),
+        _ => Err(BorshError::Ordinal { at }),
     }
 }
 
 #[tactic(auto, unfolding(record_model::specs::Records::leaf_at))]
 fn read_leaf<'a>(reader: &mut Reader<'a>) -> Result<Layout<'a>, BorshError>
-    ensures { Follows layout_seen result reader.old reader.new leaf_at }
+    ensures { Follows layout_viewed result reader.old reader.new leaf_at }
 {
     let packed = reader.bytes()?;
     let value = read_value(reader)?;
@@ -69,7 +69,7 @@ fn read_leaf<'a>(reader: &mut Reader<'a>) -> Result<Layout<'a>, BorshError>
 
 #[tactic(auto, unfolding(record_model::specs::Records::branch_at))]
 fn read_branch<'a>(reader: &mut Reader<'a>) -> Result<Layout<'a>, BorshError>
-    ensures { Follows layout_seen result reader.old reader.new branch_at }
+    ensures { Follows layout_viewed result reader.old reader.new branch_at }
 {
     let kids = read_children(reader)?;
     Ok(Layout::Branch { value: None, kids })
@@ -77,7 +77,7 @@ fn read_branch<'a>(reader: &mut Reader<'a>) -> Result<Layout<'a>, BorshError>
 
 #[tactic(auto, unfolding(record_model::specs::Records::branch_with_value_at))]
 fn read_branch_with_value<'a>(reader: &mut Reader<'a>) -> Result<Layout<'a>, BorshError>
-    ensures { Follows layout_seen result reader.old reader.new branch_with_value_at }
+    ensures { Follows layout_viewed result reader.old reader.new branch_with_value_at }
 {
     let value = read_value(reader)?;
     let kids = read_children(reader)?;
@@ -89,7 +89,7 @@ fn read_branch_with_value<'a>(reader: &mut Reader<'a>) -> Result<Layout<'a>, Bor
 
 #[tactic(auto, unfolding(record_model::specs::Records::extension_at))]
 fn read_extension<'a>(reader: &mut Reader<'a>) -> Result<Layout<'a>, BorshError>
-    ensures { Follows layout_seen result reader.old reader.new extension_at }
+    ensures { Follows layout_viewed result reader.old reader.new extension_at }
 {
     let packed = reader.bytes()?;
     let child = reader.digest()?;

@@ -3,7 +3,7 @@ ghost use Rattle.byte_model.specs.Nibbles.{AreBytes};
 ghost use Rattle.byte_model.specs.Node.{Node};
 ghost use Rattle.byte_model.specs.Laws.{SameNode};
 ghost use Rattle.record_model.specs.Records.{IsRecord, record_in, node_in, suited};
-ghost use Rattle.node_codec.specs.Layouts.{layout_seen};
+ghost use Rattle.node_codec.specs.Layouts.{layout_viewed};
 ghost use Rattle.node_codec.specs.Views.{Gives, node_viewed};
 
 use crate::layout::{Layout, read_layout};
@@ -41,7 +41,7 @@ fn read_record(bytes: &[u8]) -> Result<(NodeView<'_>, u64), NodeError>
 /// The node of a record's fields.
 #[tactic(auto, unfolding(record_model::specs::Records::node_in, record_model::specs::Records::shaped))]
 fn read_fields(layout: Layout<'_>) -> Result<NodeView<'_>, NodeError>
-    ensures { Gives node_viewed result (node_in (layout_seen layout.entry)) }
+    ensures { Gives node_viewed result (node_in (layout_viewed layout.entry)) }
 {
     let node = match layout {
         Layout::Leaf { packed, value } => NodeView::Leaf {

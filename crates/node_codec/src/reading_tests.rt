@@ -179,13 +179,13 @@ fn an_extension_that_is_read(rt: HostRuntime) -> Result<(), Fail> {
     Ok(())
 }
 
-/// Cut anywhere, a record is refused at the field that is not whole. The places are those at which
+/// Cut anywhere, a record is refused at the field that is not whole. The offsets are those at which
 /// its fields begin.
-fn expect_cuts(rt: &impl Abort, record: &Text, places: &[u64]) {
+fn expect_cuts(rt: &impl Abort, record: &Text, offsets: &[u64]) {
     let bytes = record.as_slice();
     let mut at = 0;
     for length in 0..bytes.len() {
-        if places.contains(&(length as u64)) {
+        if offsets.contains(&(length as u64)) {
             at = length as u64;
         }
         let (prefix, _) = bytes.split_at(length);

@@ -20,8 +20,8 @@ unfolding digests_at bytes_at
 none_read n c less =
     let here : nat_lt (length c.left) 32 ≡ true = lt-ltb _ _ less in
     let whole : nat_lt (length c.left) (32 * suc n) ≡ true = lt-ltb _ _ (omega arith) in
-    let place : c.at ≡ c.at + length c.left / 32 * 32 = omega arith in
-    rw (here, whole) (ap (λ a. Err (short a)) place)
+    let offset : c.at ≡ c.at + length c.left / 32 * 32 = omega arith in
+    rw (here, whole) (ap (λ a. Err (short a)) offset)
 
 -- the first, and then the others
 one_read : (n : ℕ) (c : Cursor) → 32 ≤ length c.left → digests_at n (behind_one c) ≡ digests_read n (behind_one c) → digests_at (suc n) c ≡ digests_read (suc n) c
@@ -38,23 +38,23 @@ one_read n c more others = go (cases_lt (length c.left) (32 * suc n))
     go (inl less) =
         let whole : nat_lt (length c.left) (32 * suc n) ≡ true = lt-ltb _ _ less in
         let rest : nat_lt (length (drop 32 c.left)) (32 * n) ≡ true = lt-ltb _ _ (omega (arith, left)) in
-        let place : c.at + 32 + length (drop 32 c.left) / 32 * 32 ≡ c.at + length c.left / 32 * 32 = omega (arith, left) in
-        rw (here, others, whole, rest) (ap (λ a. Err (short a)) place)
+        let offset : c.at + 32 + length (drop 32 c.left) / 32 * 32 ≡ c.at + length c.left / 32 * 32 = omega (arith, left) in
+        rw (here, others, whole, rest) (ap (λ a. Err (short a)) offset)
     go (inr enough) =
         let whole : nat_lt (length c.left) (32 * suc n) ≡ false = le-ltb _ _ enough in
         let rest : nat_lt (length (drop 32 c.left)) (32 * n) ≡ false = le-ltb _ _ (omega (arith, left)) in
         let bytes : 32 + 32 * n ≡ 32 * suc n = omega arith in
         let text : take 32 c.left ++ take (32 * n) (drop 32 c.left) ≡ take (32 * suc n) c.left = sym (take-add 32 (32 * n) c.left) ∙ ap (λ k. take k c.left) bytes in
         let behind : drop (32 * n) (drop 32 c.left) ≡ drop (32 * suc n) c.left = drop-drop (32 * n) 32 c.left ∙ ap (λ k. drop k c.left) bytes in
-        let place : c.at + 32 + 32 * n ≡ c.at + 32 * suc n = omega arith in
-        rw (here, others, whole, rest) (λ i. Ok (text i, record { at = place i; left = behind i }))
+        let offset : c.at + 32 + 32 * n ≡ c.at + 32 * suc n = omega arith in
+        rw (here, others, whole, rest) (λ i. Ok (text i, record { at = offset i; left = behind i }))
 
 pub digests_at-is : (n : ℕ) (c : Cursor) → digests_at n c ≡ digests_read n c
 unfolding digests_at
 digests_at-is zero c =
     let here : nat_lt (length c.left) 0 ≡ false = le-ltb _ _ (omega arith) in
-    let place : c.at ≡ c.at + 0 = omega arith in
-    rw here (λ i. Ok ([], record { at = place i; left = c.left }))
+    let offset : c.at ≡ c.at + 0 = omega arith in
+    rw here (λ i. Ok ([], record { at = offset i; left = c.left }))
 digests_at-is (suc n) c = elim (cases_lt (length c.left) 32) [
   | inl less ↦ none_read n c less
   | inr more ↦ one_read n c more (digests_at-is n (behind_one c))

@@ -42,7 +42,7 @@ bytes_taken n c small = unless (nat_lt (length c.left) n) _ _ (λ enough. record
   small = AreBytes-take n c.left small;
 })
 
--- the place behind a field of so many bytes
+-- the offset behind a field of so many bytes
 abbrev pub behind : ℕ → ℕ → List ℕ → Cursor
 behind at n rest = record { at = at + n; left = rest }
 

@@ -123,9 +123,9 @@ extension_taken c small = and_then (vector_taken c small) (λ packed h. and_then
   path = h.small;
 })))
 
-kind_taken : (place kind : ℕ) (c : Cursor) → AreBytes c.left → Gives (kind_at place kind c) (TakesFields kind c)
+kind_taken : (offset kind : ℕ) (c : Cursor) → AreBytes c.left → Gives (kind_at offset kind c) (TakesFields kind c)
 unfolding kind_at
-kind_taken place kind c small =
+kind_taken offset kind c small =
     by_test (kind == 0) (λ e. of e (leaf_taken c small)) (λ _.
     by_test (kind == 1) (λ e. of e (branch_taken c small)) (λ _.
     by_test (kind == 2) (λ e. of e (branch_with_value_taken c small)) (λ _.
@@ -151,15 +151,15 @@ layout_taken c small = and_then (number_taken one_byte c small) (λ kind h. and_
 
 -- ---- what was spelled is read again
 
-fields_again : (layout : Layout) (place at : ℕ) (rest : List ℕ) → FitsLayout layout → (end : ℕ) × (kind_at place (ordinal_of layout) (record { at = at; left = spelled_fields layout ++ rest }) ≡ Ok (layout, record { at = end; left = rest }))
+fields_again : (layout : Layout) (offset at : ℕ) (rest : List ℕ) → FitsLayout layout → (end : ℕ) × (kind_at offset (ordinal_of layout) (record { at = at; left = spelled_fields layout ++ rest }) ≡ Ok (layout, record { at = end; left = rest }))
 unfolding kind_at leaf_at branch_at branch_with_value_at extension_at
-fields_again (leaf packed value) place at rest fits =
+fields_again (leaf packed value) offset at rest fits =
     (at + 4 + length packed + 4 + 32, rw (append_assoc (borsh_bytes packed) (spelled_value value) rest, vector_again packed at (spelled_value value ++ rest) fits.0, value_again value (at + 4 + length packed) rest fits.1) refl)
-fields_again (branch None bitmap digests) place at rest fits =
+fields_again (branch None bitmap digests) offset at rest fits =
     (at + 2 + 32 * bits_below bitmap 16, rw (children_again bitmap digests at rest fits.1) refl)
-fields_again (branch (Some value) bitmap digests) place at rest fits =
+fields_again (branch (Some value) bitmap digests) offset at rest fits =
     (at + 4 + 32 + 2 + 32 * bits_below bitmap 16, rw (append_assoc (spelled_value value) (borsh_u16 bitmap ++ digests) rest, value_again value at ((borsh_u16 bitmap ++ digests) ++ rest) fits.0, children_again bitmap digests (at + 4 + 32) rest fits.1) refl)
-fields_again (extension packed child) place at rest fits =
+fields_again (extension packed child) offset at rest fits =
     (at + 4 + length packed + 32, rw (append_assoc (borsh_bytes packed) child rest, vector_again packed at (child ++ rest) fits.0, bytes_again 32 child (at + 4 + length packed) rest fits.1) refl)
 
 small_ordinal : (layout : Layout) → ordinal_of layout < 2 ^ 8

@@ -1,6 +1,7 @@
--- Reading the fields of a record from left to right (Borsh 1.0), with the place of the first that is not whole.
+-- Reading the fields of a record from left to right (Borsh 1.0), and where the first stands that is not whole.
 use Rattle.std.specs.Prelude.{ℕ, zero, suc, ◌+◌, ◌==◌, nat_lt, List, [], ◌++◌, length, take, drop, Result, Ok, Err, if◌then◌else◌}
 use Rattle.std.specs.Int.{Width, w32, byte_len, from_le_bytes}
+use Rattle.byte_model.specs.Node.{digest_width}
 
 -- What is wrong with a layout, and at which byte, counted from 0: a fixed field or the body of a vector that begins there runs past the end; bytes are left over from there on; the byte there is no ordinal.
 pub data FrameFault : Type 0 where
@@ -44,11 +45,11 @@ vector_at c = do
   count ← number_at w32 c
   bytes_at count.0 count.1
 
--- so many digests of 32 bytes, each a field
+-- so many digests, each a field
 unfoldable pub digests_at : ℕ → Cursor → Read (List ℕ)
 digests_at zero c = Ok ([], c)
 digests_at (suc n) c = do
-  first ← bytes_at 32 c
+  first ← bytes_at digest_width c
   others ← digests_at n first.1
   Ok (first.0 ++ others.0, others.1)
 

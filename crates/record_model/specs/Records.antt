@@ -4,7 +4,7 @@ use Rattle.std.specs.Int.{w8, w16, w32, w64}
 use Rattle.byte_model.specs.Below.{sum_below}
 use Rattle.byte_model.specs.PackedPath.{packed}
 use Rattle.byte_model.specs.Node as node
-use Rattle.byte_model.specs.Node.{Node, ValueRef, spelled, child_count, longest_value, IsShaped}
+use Rattle.byte_model.specs.Node.{digest_width, Node, ValueRef, spelled, child_count, longest_value, IsShaped}
 use Rattle.byte_model.specs.Laws.{FitsRecord}
 use Rattle.record_model.specs.Fields.{FrameFault, ordinal, Cursor, Read, start_of, ◌>>=◌, bytes_at, number_at, vector_at, digests_at, end_of}
 use Rattle.record_model.specs.Paths.{PathFault, flag, path_in}
@@ -33,7 +33,7 @@ bits_below bitmap n = sum_below (bit bitmap) n
 unfoldable pub value_at : Cursor → Read ValueRef
 value_at c = do
   count ← number_at w32 c
-  digest ← bytes_at 32 count.1
+  digest ← bytes_at digest_width count.1
   Ok (record { length = count.0; digest = digest.0 }, digest.1)
 
 -- sixteen bits, and a digest for each that is set
@@ -63,17 +63,17 @@ branch_with_value_at c = do
 unfoldable pub extension_at : Cursor → Read Layout
 extension_at c = do
   packed ← vector_at c
-  child ← bytes_at 32 packed.1
+  child ← bytes_at digest_width packed.1
   Ok (extension packed.0 child.0, child.1)
 
--- the fields behind an ordinal, which stands at a place
+-- the fields behind an ordinal, which stands at this offset
 unfoldable pub kind_at : ℕ → ℕ → Cursor → Read Layout
-kind_at place kind c =
+kind_at offset kind c =
     if kind == 0 then leaf_at c
     else if kind == 1 then branch_at c
     else if kind == 2 then branch_with_value_at c
     else if kind == 3 then extension_at c
-    else Err (ordinal place)
+    else Err (ordinal offset)
 
 -- the fields of the node, and its usage
 unfoldable pub layout_at : Cursor → Read (Layout × ℕ)
@@ -93,7 +93,7 @@ layout_of bytes = do
 
 -- the child at nibble i: its digest stands behind those of the bits below
 abbrev pub child_in : ℕ → List ℕ → ℕ → Option (List ℕ)
-child_in bitmap digests i = if bit bitmap i == 1 then Some (take 32 (drop (32 * bits_below bitmap i) digests)) else None
+child_in bitmap digests i = if bit bitmap i == 1 then Some (take digest_width (drop (digest_width * bits_below bitmap i) digests)) else None
 
 -- the test of the shape that a node of any place has
 abbrev pub has_shape : Node → Bool

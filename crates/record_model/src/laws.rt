@@ -5,7 +5,7 @@ ghost use Rattle.std.specs.Int.{w8, w16, w32, w64};
 ghost use Rattle.byte_model.specs.Nibbles.{AreBytes, AreNibbles};
 ghost use Rattle.byte_model.specs.Borsh.{borsh_u8, borsh_u16, borsh_u32, borsh_u64, borsh_bytes};
 ghost use Rattle.byte_model.specs.PackedPath.{packed};
-ghost use Rattle.byte_model.specs.Node.{Node, spelled, IsShaped};
+ghost use Rattle.byte_model.specs.Node.{digest_width, Node, spelled, IsShaped};
 ghost use Rattle.byte_model.specs.Laws.{FitsRecord, SameNode};
 ghost use Rattle.record_model.specs.Fields.{Cursor, short, bytes_at, number_at, vector_at, digests_at};
 ghost use Rattle.record_model.specs.Exact.{ReadsExactly};
@@ -25,8 +25,8 @@ pub fn fields_are_read_exactly()
 /// Digests are read one after the other as all their bytes are read at once. Where the bytes end before, the fault is at the first digest that is not whole.
 pub fn digests_are_read_at_once()
     ensures { (n : ℕ) (c : Cursor) → digests_at n c ≡
-        (if nat_lt (length c.left) (32 * n) then Err (short (c.at + length c.left / 32 * 32))
-        else Ok (take (32 * n) c.left, record { at = c.at + 32 * n; left = drop (32 * n) c.left })) }
+        (if nat_lt (length c.left) (digest_width * n) then Err (short (c.at + length c.left / digest_width * digest_width))
+        else Ok (take (digest_width * n) c.left, record { at = c.at + digest_width * n; left = drop (digest_width * n) c.left })) }
 {}
 
 /// Reading a packed path accepts exactly what packing gives.

@@ -4,6 +4,7 @@ use Rattle.std.specs.List.{AllByRecursion, count_by}
 use Rattle.std.specs.Ordering.{nat_cmp}
 use Rattle.std.specs.Cmp.Lexicographic.{slice_cmp, pointwise}
 use Rattle.std.specs.FinMap.{FinMap, get}
+use Rattle.byte_model.specs.Node.{digest_width}
 use Rattle.sha2.specs.Sha256.{sha256}
 use Rattle.trie_model.specs.State.{State, rows_of}
 use Rattle.trie_model.specs.Tree.{Tree, nothing, leaf, branch, extension, below, tree_of}
@@ -11,7 +12,7 @@ use Rattle.trie_model.specs.Texts.{usage, text, places}
 
 -- the root of the empty state, and no text's name
 abbrev pub zero_digest : List ℕ
-zero_digest = replicate 32 0
+zero_digest = replicate digest_width 0
 
 -- the subtree at a place
 unfoldable pub subtree_at : State → List ℕ → Tree

@@ -5,15 +5,12 @@ use Rattle.std.specs.Ordering.{nat_cmp}
 use Rattle.std.specs.Cmp.Lexicographic.{slice_cmp}
 use Rattle.std.specs.FinMap.{FinMap, entries}
 use Rattle.byte_model.specs.Nibbles.{AreBytes, nibbles}
+pub use Rattle.byte_model.specs.Nibbles.{longest_key}
 use Rattle.byte_model.specs.Node.{longest_value}
 
 -- the keys stand in the order of their bytes, a prefix first
 abbrev pub State : Type 0
 State = FinMap (slice_cmp nat_cmp) (List ℕ)
-
--- the most bytes that a key may have: a column, an account id, a separator and a rest
-abbrev pub longest_key : ℕ
-longest_key = 2114
 
 -- a key and a value are byte strings within the limits
 pub record IsPair (pair : List ℕ × List ℕ) : Type 0 where

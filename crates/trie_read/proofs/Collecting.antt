@@ -12,7 +12,7 @@ use Rattle.trie_model.specs.State.{Row, rows_of}
 use Rattle.visit_model.specs.Steps.{Step, no_text, no_node, value, value_steps, listing_steps}
 use Rattle.visit_model.specs.Steps as step
 use Rattle.visit_model.specs.Visits.{Visits, missing, bad, refused, node_first, value_first, value_visit, visits_of}
-use Rattle.visit_model.proofs.Collected.{rows_of-insert}
+use Rattle.visit_model.proofs.RisingRows.{rows_of-insert}
 use Rattle.base_core.specs.PairMaps.{PairMap}
 use Rattle.node_codec.specs.declared.value_ref.ValueRef as codec
 use Rattle.node_codec.specs.Meanings.{value_of}

@@ -8,9 +8,9 @@ pub mod Values
 pub mod Lookups
 pub mod Rows
 pub mod Listings
-pub mod Tops
-pub mod Fitting
-pub mod Bytes
-pub mod Collected
-pub mod Rises
+pub mod Roots
+pub mod SeenValues
+pub mod SeenNibbles
+pub mod RisingRows
+pub mod ListedRows
 pub mod ListedPlaces

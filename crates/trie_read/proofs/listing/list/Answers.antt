@@ -3,7 +3,7 @@ use Rattle.byte_model.specs.Nibbles.{nibbles}
 use Rattle.trie_model.specs.Root.{Table}
 use Rattle.trie_model.specs.State.{rows_of}
 use Rattle.visit_model.specs.Visits.{listing_visits}
-use Rattle.visit_model.proofs.Rises.{listing-rises}
+use Rattle.visit_model.proofs.ListedRows.{listing-rises}
 use Rattle.trie_read.specs.declared.walk.Walk.{Walk}
 use Rattle.trie_read.specs.Walks.{Stacked}
 use Rattle.trie_read.specs.Listings.{Passed, AnswersPlace, AnswersPair}

@@ -1,4 +1,4 @@
-use Rattle.visit_model.proofs.Rises.{listing-bytes, listing-state}
+use Rattle.visit_model.proofs.ListedRows.{listing-bytes, listing-state}
 use Rattle.visit_model.proofs.laws.listing_gives_a_state.Goals as goal
 
 pub returns-clause-bytes : goal.returns-clause-bytes

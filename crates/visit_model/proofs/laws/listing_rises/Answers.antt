@@ -1,4 +1,4 @@
-use Rattle.visit_model.proofs.Rises.{listing-rises, listing-few, listing-fits}
+use Rattle.visit_model.proofs.ListedRows.{listing-rises, listing-few, listing-fits}
 use Rattle.visit_model.proofs.laws.listing_rises.Goals as goal
 
 pub returns-clause-rising : goal.returns-clause-rising

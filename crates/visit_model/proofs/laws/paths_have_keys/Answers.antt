@@ -1,4 +1,4 @@
-use Rattle.visit_model.proofs.Collected.{nibbles-key_of, AreBytes-key_of}
+use Rattle.visit_model.proofs.RisingRows.{nibbles-key_of, AreBytes-key_of}
 use Rattle.visit_model.proofs.laws.paths_have_keys.Goals as goal
 
 pub returns-clause-same : goal.returns-clause-same

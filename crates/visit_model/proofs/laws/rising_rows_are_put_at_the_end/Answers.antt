@@ -1,4 +1,4 @@
-use Rattle.visit_model.proofs.Collected.{entries-insert_last, rows_of-insert}
+use Rattle.visit_model.proofs.RisingRows.{entries-insert_last, rows_of-insert}
 use Rattle.visit_model.proofs.laws.rising_rows_are_put_at_the_end.Goals as goal
 
 pub returns-clause-pairs : goal.returns-clause-pairs

@@ -1,4 +1,4 @@
-use Rattle.visit_model.proofs.Tops.{top_visits-empty, top_visits-state}
+use Rattle.visit_model.proofs.Roots.{top_visits-empty, top_visits-state}
 use Rattle.visit_model.proofs.laws.top_over_state.Goals as goal
 
 pub returns-clause-empty : goal.returns-clause-empty

@@ -7,12 +7,12 @@ use Rattle.nibble_keys.proofs.nibbles.Nibbles.common.Goals as goal
 
 pub at-requires : goal.at-requires
 at-requires c =
-    let long = length-view c.self.inside.key.now c.args.self.now c.self.inside.place c.self.view_is in
+    let long = length-view c.self.inside.key.now c.args.self.now c.self.inside.start c.self.view_is in
     omega arith
 
 pub at-requires-else-low-eq0 : goal.at-requires-else-low-eq0
 at-requires-else-low-eq0 c =
-    let long = length-view c.other.inside.key.now c.args.other.now c.other.inside.place c.other.view_is in
+    let long = length-view c.other.inside.key.now c.args.other.now c.other.inside.start c.other.view_is in
     omega arith
 
 pub overflow_add-result : goal.overflow_add-result
@@ -23,11 +23,11 @@ overflow_add-result c =
 pub returns-then-low-eq0 : goal.returns-then-low-eq0
 returns-then-low-eq0 c =
     common-whole c.self.inside.key.now c.other.inside.key.now c.args.self.now c.args.other.now
-    c.self.inside.place c.other.inside.place c.div_ceil.result c.div_ceil-2.result _
+    c.self.inside.start c.other.inside.start c.div_ceil.result c.div_ceil-2.result _
     c.self.view_is c.other.view_is (omega arith) (omega arith) (simp take_rest at c.common_of_keys.ensures)
 
 pub returns-then-at : goal.returns-then-at
 returns-then-at c =
     common-half c.self.inside.key.now c.other.inside.key.now c.args.self.now c.args.other.now
-    c.self.inside.place c.other.inside.place c.div_ceil.result c.div_ceil-2.result _
+    c.self.inside.start c.other.inside.start c.div_ceil.result c.div_ceil-2.result _
     c.self.view_is c.other.view_is (omega arith) (omega arith) (omega arith) (omega arith) (sym c.at.ensures.value ∙ (c.if-at.true ∙ c.at-else-low-eq0.ensures.value)) (simp take_rest at c.common_of_keys-then-at.ensures)

@@ -4,10 +4,10 @@ use Rattle.nibble_keys.proofs.nibbles.Nibbles.rest.Goals as goal
 
 pub overflow_add-result : goal.overflow_add-result
 overflow_add-result c =
-    let long = length-view c.self.inside.key.now c.args.self.now c.self.inside.place c.self.view_is in
+    let long = length-view c.self.inside.key.now c.args.self.now c.self.inside.start c.self.view_is in
     omega arith
 
 pub invariant_of-result : goal.invariant_of-result
 invariant_of-result c =
-    let long = length-view c.self.inside.key.now c.args.self.now c.self.inside.place c.self.view_is in
+    let long = length-view c.self.inside.key.now c.args.self.now c.self.inside.start c.self.view_is in
     omega arith

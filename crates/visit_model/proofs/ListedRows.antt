@@ -24,9 +24,9 @@ use Rattle.visit_model.specs.Visits as refusal
 use Rattle.visit_model.specs.Visits.{Visits, Refusal, value_first, refused, value_visit, visits_of, listing_visits}
 use Rattle.visit_model.specs.Bounds.{reaches, IsListed}
 use Rattle.visit_model.specs.Keys.{AreByteTexts}
-use Rattle.visit_model.proofs.Bytes.{nibbles-seen}
-use Rattle.visit_model.proofs.Collected.{state-rising}
-use Rattle.visit_model.proofs.Fitting.{NameFits, fit-seen}
+use Rattle.visit_model.proofs.SeenNibbles.{nibbles-seen}
+use Rattle.visit_model.proofs.RisingRows.{state-rising}
+use Rattle.visit_model.proofs.SeenValues.{NameFits, fit-seen}
 use Rattle.visit_model.proofs.Rows.{Named, beneath, beneath-nil, name_here, named, named_in, reaching, named-listing_steps}
 
 -- ---- what is seen rises

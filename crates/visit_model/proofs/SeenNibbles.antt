@@ -13,7 +13,7 @@ use Rattle.trie_model.specs.Root.{Table}
 use Rattle.visit_model.specs.Keys.{AreByteTexts}
 use Rattle.visit_model.specs.Seen.{seen}
 use Rattle.visit_model.proofs.Rows.{named_in}
-use Rattle.visit_model.proofs.Fitting.{all_seen}
+use Rattle.visit_model.proofs.SeenValues.{all_seen}
 
 -- the parts of a node that bytes spell fit their fields
 parts_fit : (bytes : List ℕ) (n : Node) (usage : ℕ) → AreBytes bytes → record_in bytes ≡ Ok (n, usage) → FitsRecord n
