@@ -1,6 +1,6 @@
 -- The event of a line, as its words are cut off one after another.
-use Rattle.std.proofs.Common.{◌≡◌, ◌≢◌, ℕ, Bool, true, false, cond, eqb, leb, List, [], ◌∷◌, length, Option, Some, None, Result, Ok, Err, IfOk, refl, sym, ap, ◌∙◌, subst}
-use Rattle.std.specs.Prelude.{codes, slice_get, if◌then◌else◌}
+use Rattle.std.proofs.Common.{◌≡◌, ◌≢◌, ℕ, Bool, true, false, cond, eqb, leb, List, [], ◌∷◌, length, Option, is_some, Some, None, Result, Ok, Err, IfOk, refl, sym, ap, ◌∙◌, subst}
+use Rattle.std.specs.Prelude.{codes, slice_get, IsSome, if◌then◌else◌}
 use Rattle.std.specs.List.{slice_split, join_with_byte, list_any}
 use Rattle.std.specs.Result.{result_ok}
 use Rattle.std.specs.Str.{bytes_eq}
@@ -11,13 +11,14 @@ use Rattle.std.proofs.lemmas.List.Splits.{slice_split_none, join_with_byte-slice
 use Rattle.hex.specs.Hex.{decode_of, is_hex_digit}
 use Rattle.hex.specs.declared.error.FromHexError.{FromHexError}
 use Rattle.hex.proofs.HexLemmas.{decode_of-ok}
+use Rattle.byte_model.specs.Node.{longest_value}
 use Rattle.script_model.specs.Lines.{Event, nothing, set, set_pair, event_of, event_of_words, is_space, is_carriage_return}
 use Rattle.script_model.specs.Spellings.{hex_bytes, at_most, key_of, value_of, no_bytes}
 use Rattle.script_io.specs.declared.event.Event.{Event as Asked}
 use Rattle.script_io.specs.declared.event.Event.TheVariants.{Nothing}
 use Rattle.script_io.specs.declared.event.EventError.{EventError}
-use Rattle.script_io.specs.declared.event.EventError.TheVariants.{Bad}
-use Rattle.script_io.specs.Meanings.{event}
+use Rattle.script_io.specs.declared.event.EventError.TheVariants.{Bad, NoMemory}
+use Rattle.script_io.specs.Meanings.{IsRead, event}
 
 -- another first word
 other_word : (word : List ℕ) (words : List (List ℕ)) → bytes_eq word (codes "set") ≡ false → event_of_words (word ∷ words) ≡ None
@@ -33,11 +34,6 @@ no_set false e f h k = k
 no_pair : (key : Option (List ℕ)) → set_pair key None ≡ None
 no_pair None = refl
 no_pair (Some key) = refl
-
-no_key : (word key : List ℕ) (words : List (List ℕ)) → key_of key ≡ None → event_of_words (word ∷ key ∷ words) ≡ None
-no_key word key [] e = refl
-no_key word key (value ∷ []) e = no_set (bytes_eq word (codes "set")) _ _ (ap (λ k. set_pair k (value_of value)) e) refl
-no_key word key (value ∷ more ∷ words) e = refl
 
 no_value : (word key value : List ℕ) (words : List (List ℕ)) → join_with_byte 32 words ≡ value → value_of value ≡ None → event_of_words (word ∷ key ∷ words) ≡ None
 no_value word key value [] j e = refl
@@ -77,6 +73,10 @@ within most (Some found) bytes e = chosen (leb (length found) most) e
     chosen true h = h
     chosen false h = absurd cc
 
+value_alone : (text value : List ℕ) → value_of text ≡ Some value → slice_split is_space text ≡ text ∷ []
+unfolding value_of
+value_alone text value e = one_word text value (within longest_value (hex_bytes text) value e)
+
 -- ---- the event of a line whose words were cut off so
 
 -- the event of the words of a line
@@ -92,18 +92,41 @@ event-other_word line word rest e h = ap event_of_words e ∙ other_word word (s
 pub event-one_word : (line word rest : List ℕ) → slice_split is_space line ≡ word ∷ slice_split is_space rest → slice_split is_space rest ≡ rest ∷ [] → words_event line ≡ None
 event-one_word line word rest e f = ap event_of_words (e ∙ ap (λ (words : List (List ℕ)). word ∷ words) f)
 
-pub event-no_key : (line word rest key value : List ℕ) → slice_split is_space line ≡ word ∷ slice_split is_space rest → slice_split is_space rest ≡ key ∷ slice_split is_space value → key_of key ≡ None → words_event line ≡ None
-event-no_key line word rest key value e f h = ap event_of_words (e ∙ ap (λ (words : List (List ℕ)). word ∷ words) f) ∙ no_key word key (slice_split is_space value) h
+-- two words behind `set`, the second of which is all that is left of the line
+pub event-pair : (line word rest key value : List ℕ) → slice_split is_space line ≡ word ∷ slice_split is_space rest → slice_split is_space rest ≡ key ∷ slice_split is_space value → bytes_eq word (codes "set") ≡ true
+    → words_event line ≡ set_pair (key_of key) (value_of value)
+event-pair line word rest key value e f w = ap event_of_words (e ∙ ap (λ (words : List (List ℕ)). word ∷ words) f) ∙ by_value (value_of value) refl
+  where
+    by_value : (o : Option (List ℕ)) → value_of value ≡ o → event_of_words (word ∷ key ∷ slice_split is_space value) ≡ set_pair (key_of key) (value_of value)
+    by_value None h = no_value word key value (slice_split is_space value) (join_with_byte-slice_split 32 value) h ∙ sym (ap (set_pair (key_of key)) h ∙ no_pair (key_of key))
+    by_value (Some v) h = ap (λ (words : List (List ℕ)). event_of_words (word ∷ key ∷ words)) (value_alone value v h) ∙ ap (λ b. cond b (set_pair (key_of key) (value_of value)) None) w
 
-pub event-no_value : (line word rest key value : List ℕ) → slice_split is_space line ≡ word ∷ slice_split is_space rest → slice_split is_space rest ≡ key ∷ slice_split is_space value → value_of value ≡ None → words_event line ≡ None
-event-no_value line word rest key value e f h = ap event_of_words (e ∙ ap (λ (words : List (List ℕ)). word ∷ words) f) ∙ no_value word key value (slice_split is_space value) (join_with_byte-slice_split 32 value) h
+-- what was read of a key, where none is one that found no memory
+abbrev pub IsKept : (meant key : Option (List ℕ)) → Type 0
+IsKept meant None = IsSome meant
+IsKept meant (Some key) = meant ≡ Some key
 
-pub event-set : (line word rest key value k v : List ℕ) → slice_split is_space line ≡ word ∷ slice_split is_space rest → slice_split is_space rest ≡ key ∷ slice_split is_space value → bytes_eq word (codes "set") ≡ true → key_of key ≡ Some k → value_of value ≡ Some v → words_event line ≡ Some (set k v)
-unfolding value_of
-event-set line word rest key value k v e f w hk hv =
-    let alone : slice_split is_space value ≡ value ∷ [] = one_word value v (within 4194304 (hex_bytes value) v hv) in
-    ap event_of_words (e ∙ ap (λ (words : List (List ℕ)). word ∷ words) (f ∙ ap (λ (words : List (List ℕ)). key ∷ words) alone))
-    ∙ ap (λ b. cond b (set_pair (key_of key) (value_of value)) None) w ∙ ap (λ o. set_pair o (value_of value)) hk ∙ ap (set_pair (Some k)) hv
+some_of : (meant key : Option (List ℕ)) → IsKept meant key → IsSome meant
+some_of meant None h = h
+some_of meant (Some key) h = ap is_some h
+
+pair_some : (key value : Option (List ℕ)) → IsSome key → IsSome value → IsSome (set_pair key value)
+pair_some None value h k = absurd cc
+pair_some (Some key) None h k = absurd cc
+pair_some (Some key) (Some value) h k = refl
+
+pub pair_read : (key value : Option (List ℕ)) (k v : List ℕ) → key ≡ Some k → value ≡ Some v → set_pair key value ≡ Some (set k v)
+pair_read key value k v e f = ap (λ o. set_pair o value) e ∙ ap (set_pair (Some k)) f
+
+pub pair_unkept : (key value : Option (List ℕ)) (v : List ℕ) → IsSome key → value ≡ Some v → IsSome (set_pair key value)
+pair_unkept key value v h e = pair_some key value h (ap is_some e)
+
+pub pair_bad_key : (key value : Option (List ℕ)) → key ≡ None → set_pair key value ≡ None
+pair_bad_key key value e = ap (λ o. set_pair o value) e
+
+pub pair_refused : (key value kept : Option (List ℕ)) (error : EventError) (r : Result Asked EventError) → IsKept key kept → IsRead (λ (bytes : List ℕ). bytes) value (Err error) → r ≡ Err error → IsRead event (set_pair key value) r
+pair_refused key value kept Bad r k h e = rw e (ap (set_pair key) h ∙ no_pair key)
+pair_refused key value kept NoMemory r k h e = rw e (pair_some key value (some_of key kept k) h)
 
 -- ---- a line of a script
 
@@ -122,14 +145,25 @@ unfolding event_of
 event-words [] byte e h = absurd cc
 event-words (first ∷ line) byte e h = let same : first ≡ byte = cc in rw (ne_eqb first 35 (λ hash. h (sym same ∙ hash))) refl
 
--- what was read of a comment
-pub record IsCommentRead (line : List ℕ) (r : Result Asked EventError) : Type 0 where
-  pub ok : IfOk r (λ found. event_of line ≡ Some (event found))
-  pub bad : r ≡ Err Bad → event_of line ≡ None
+comment_read : (b : Bool) (line : List ℕ) → event_of line ≡ cond b None (Some nothing) → IsRead event (event_of line) (cond b (Err Bad) (Ok Nothing))
+comment_read true line e = e
+comment_read false line e = e
 
-by_return : (b : Bool) (line : List ℕ) → event_of line ≡ cond b None (Some nothing) → IsCommentRead line (cond b (Err Bad) (Ok Nothing))
-by_return true line e = record { ok = tt; bad = λ _. e }
-by_return false line e = record { ok = e; bad = λ h. absurd cc }
+pub event-comment : (line : List ℕ) (byte : ℕ) (r : Result Asked EventError) → Some byte ≡ slice_get line 0 → byte ≡ 35 → r ≡ (if list_any is_carriage_return line then Err Bad else Ok Nothing) → IsRead event (event_of line) r
+event-comment line byte r e hash is = rw is (comment_read (list_any is_carriage_return line) line (hash_comment line (sym e ∙ ap Some hash)))
 
-pub event-comment : (line : List ℕ) (byte : ℕ) (r : Result Asked EventError) → Some byte ≡ slice_get line 0 → byte ≡ 35 → r ≡ (if list_any is_carriage_return line then Err Bad else Ok Nothing) → IsCommentRead line r
-event-comment line byte r e hash is = rw is (by_return (list_any is_carriage_return line) line (hash_comment line (sym e ∙ ap Some hash)))
+-- ---- what was read, clause by clause
+
+pub read_ok : (meant : Option Event) (r : Result Asked EventError) → IsRead event meant r → IfOk r (λ found. meant ≡ Some (event found))
+read_ok meant (Ok found) h = h
+read_ok meant (Err error) h = tt
+
+pub read_bad : (meant : Option Event) (r : Result Asked EventError) → IsRead event meant r → r ≡ Err Bad → meant ≡ None
+read_bad meant (Ok found) h e = absurd cc
+read_bad meant (Err Bad) h e = h
+read_bad meant (Err NoMemory) h e = absurd cc
+
+pub read_no_memory : (meant : Option Event) (r : Result Asked EventError) → IsRead event meant r → r ≡ Err NoMemory → IsSome meant
+read_no_memory meant (Ok found) h e = absurd cc
+read_no_memory meant (Err Bad) h e = absurd cc
+read_no_memory meant (Err NoMemory) h e = h

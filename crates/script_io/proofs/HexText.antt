@@ -1,10 +1,12 @@
 -- The two cases of the text that is written for bytes.
-use Rattle.std.proofs.Common.{◌≡◌, ◌≢◌, ℕ, ◌*◌, ◌<◌, ◌≤◌, true, false, List, [], ◌∷◌, length, Some, None, Result, Ok, Err, refl, ap, ◌∙◌, arith}
+use Rattle.std.proofs.Common.{◌≡◌, ◌≢◌, ℕ, ◌*◌, ◌%◌, ◌<◌, ◌≤◌, Bool, true, false, List, [], ◌∷◌, length, is_some, Some, None, Result, Ok, Err, refl, ap, ◌∙◌, arith}
+use Rattle.std.specs.Prelude.{◌↔◌, is_ok, IsOk, IsSome, IsTrue}
+use Rattle.std.specs.List.{AllPass}
 use Rattle.std.specs.Result.{result_ok}
 use Rattle.std.proofs.lemmas.Bool.{ne_eqb, eq-eqb, le-leb, lt-leb}
-use Rattle.hex.specs.Hex.{encode_lower, decode_of}
+use Rattle.hex.specs.Hex.{encode_lower, decode_of, is_hex_digit}
 use Rattle.hex.specs.declared.error.FromHexError.{FromHexError}
-use Rattle.hex.proofs.HexLemmas.{decode_of-ok}
+use Rattle.hex.proofs.HexLemmas.{decode_of-ok, decode_of-digits}
 use Rattle.std.specs.Str.{bytes_eq}
 use Rattle.script_model.specs.Spellings.{hex_text, hex_bytes, at_most, no_bytes}
 
@@ -46,5 +48,28 @@ hex_bytes-ok text most bytes e z h d =
     let l = decode_of-ok text bytes d in
     ap (at_most most) (plain text e z ∙ ap result_ok d) ∙ rw (le-leb (length bytes) most (omega (arith, l.2))) refl
 
-pub hex_bytes-err : (text : List ℕ) (most : ℕ) (f : FromHexError) → bytes_eq text no_bytes ≡ false → length text ≢ 0 → decode_of text ≡ Err f → at_most most (hex_bytes text) ≡ None
-hex_bytes-err text most f e z d = ap (at_most most) (plain text e z ∙ ap result_ok d)
+pub hex_bytes-some : (text : List ℕ) (most : ℕ) → bytes_eq text no_bytes ≡ false → length text ≢ 0 → length text ≤ 2 * most → IsOk (decode_of text) → IsSome (at_most most (hex_bytes text))
+hex_bytes-some text most e z h ok = by_result (decode_of text) refl ok
+  where
+    by_result : (r : Result (List ℕ) FromHexError) → decode_of text ≡ r → IsOk r → IsSome (at_most most (hex_bytes text))
+    by_result (Ok bytes) d ok = ap is_some (hex_bytes-ok text most bytes e z h d)
+    by_result (Err f) d ok = absurd cc
+
+pub hex_bytes-none : (text : List ℕ) (most : ℕ) → bytes_eq text no_bytes ≡ false → length text ≢ 0 → ¬ IsOk (decode_of text) → at_most most (hex_bytes text) ≡ None
+hex_bytes-none text most e z bad = by_result (decode_of text) refl bad
+  where
+    by_result : (r : Result (List ℕ) FromHexError) → decode_of text ≡ r → ¬ IsOk r → at_most most (hex_bytes text) ≡ None
+    by_result (Ok bytes) d bad = absurd (bad refl)
+    by_result (Err f) d bad = ap (at_most most) (plain text e z ∙ ap result_ok d)
+
+-- ---- whether a text is an even number of digits
+
+pub decode_of-pairs : (text : List ℕ) (digits : Bool) → length text % 2 ≡ 0 → IsTrue digits ↔ AllPass is_hex_digit text → IsTrue digits ↔ IsOk (decode_of text)
+decode_of-pairs text digits even all = (
+  λ h. ap is_ok (decode_of-digits text even (all.0 h)).1,
+  λ ok. all.1 (by_result (decode_of text) refl ok),
+)
+  where
+    by_result : (r : Result (List ℕ) FromHexError) → decode_of text ≡ r → IsOk r → AllPass is_hex_digit text
+    by_result (Ok bytes) d ok = (decode_of-ok text bytes d).1
+    by_result (Err f) d ok = absurd cc

@@ -1,10 +1,13 @@
 -- The types of this crate as the definitions of the script language have them.
+use Rattle.std.specs.Prelude.{◌≡◌, Option, Some, None, IsSome, Result, Ok, Err}
 use Rattle.script_model.specs.Words as words
 use Rattle.script_model.specs.Lines as lines
 use Rattle.script_io.specs.declared.command.Command.{Command}
 use Rattle.script_io.specs.declared.command.Command.TheVariants.{Root}
 use Rattle.script_io.specs.declared.event.Event.{Event}
 use Rattle.script_io.specs.declared.event.Event.TheVariants.{Nothing, Set}
+use Rattle.script_io.specs.declared.event.EventError.{EventError}
+use Rattle.script_io.specs.declared.event.EventError.TheVariants.{Bad, NoMemory}
 
 abbrev pub command : Command → words.Command
 command Root = words.root
@@ -12,3 +15,9 @@ command Root = words.root
 abbrev pub event : Event → lines.Event
 event Nothing = lines.nothing
 event (Set key value) = lines.set key value
+
+-- What is read of a text, seen by view, is what the text means. It is refused as bad exactly where it means nothing, and for want of memory only where it means something.
+abbrev pub IsRead : {X Y : Type 0} → (X → Y) → Option Y → Result X EventError → Type 0
+IsRead view meant (Ok found) = meant ≡ Some (view found)
+IsRead view meant (Err Bad) = meant ≡ None
+IsRead view meant (Err NoMemory) = IsSome meant

@@ -1,4 +1,4 @@
-ghost use Rattle.std.specs.Prelude.{◌≡◌, Some, None, IfOk};
+ghost use Rattle.std.specs.Prelude.{◌≡◌, Some, None, IsSome, IfOk};
 ghost use Rattle.script_model.specs.Words.{command_of};
 ghost use Rattle.script_io.specs.Meanings.{command};
 
@@ -25,6 +25,7 @@ pub enum CommandError {
 pub fn read_command(alloc: Global, words: &[Text]) -> Result<Command, CommandError>
     ensures ok { IfOk result (λ found. command_of words.now ≡ Some (command found)) }
     ensures bad { result ≡ Err CommandError.Bad → command_of words.now ≡ None }
+    ensures no_memory { result ≡ Err CommandError.NoMemory → IsSome (command_of words.now) }
 {
     match words {
         [word] if word.as_slice() == b"root".as_slice() => Ok(Command::Root),

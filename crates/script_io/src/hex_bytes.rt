@@ -1,16 +1,18 @@
-ghost use Rattle.std.specs.Prelude.{◌≡◌, ◌≢◌, ◌≤◌, Some, None, Err, IfOk};
+ghost use Rattle.std.specs.Prelude.{◌≤◌, ◌↔◌, IsOk, IsTrue};
+ghost use Rattle.std.specs.List.{AllPass};
+ghost use Rattle.hex.specs.Hex.{decode_of, is_hex_digit};
+ghost use Rattle.byte_model.specs.Node.{longest_value};
 ghost use Rattle.script_model.specs.Spellings.{hex_bytes, at_most};
+ghost use Rattle.script_io.specs.Meanings.{IsRead};
 
 use crate::event::EventError;
 use base_core::Text;
-use hex::FromHexError;
 use std::alloc::Global;
 
 /// The bytes that a hexadecimal text writes, at most so many.
-pub(crate) fn read_hex(alloc: Global, text: &[u8], most: usize) -> Result<Text, EventError>
-    requires { most ≤ 4194304 }
-    ensures ok { IfOk result (λ bytes. at_most most (hex_bytes text.now) ≡ Some bytes) }
-    ensures bad { result ≡ Err EventError.Bad → at_most most (hex_bytes text.now) ≡ None }
+pub(crate) fn read_hex(alloc: Global, text: &[u8], most: u64) -> Result<Text, EventError>
+    requires { most ≤ longest_value }
+    ensures { IsRead (λ bytes. bytes) (at_most most (hex_bytes text.now)) result }
 {
     if text == b"-".as_slice() {
         return Ok(Text::from_bytes(Vec::new(alloc)));
@@ -18,20 +20,28 @@ pub(crate) fn read_hex(alloc: Global, text: &[u8], most: usize) -> Result<Text, 
     if text.is_empty() {
         return Err(EventError::Bad);
     }
-    if text.len() > 2 * most {
+    if text.len() as u64 > 2 * most {
         return Err(EventError::Bad);
     }
-    match hex::decode(alloc, text) {
-        Ok(bytes) => Ok(Text::from_bytes(bytes)),
-        Err(e) => Err(refusal(e)),
+    if let Ok(bytes) = hex::decode(alloc, text) {
+        return Ok(Text::from_bytes(bytes));
+    }
+    // Digits that were not decoded found no memory.
+    if are_pairs_of_digits(text) {
+        Err(EventError::NoMemory)
+    } else {
+        Err(EventError::Bad)
     }
 }
 
-fn refusal(e: FromHexError) -> EventError
-    ensures { result ≡ EventError.Bad → e ≢ FromHexError.OutOfMemory }
+fn are_pairs_of_digits(text: &[u8]) -> bool
+    ensures { IsTrue result ↔ IsOk (decode_of text.now) }
 {
-    match e {
-        FromHexError::OutOfMemory => EventError::NoMemory,
-        _ => EventError::Bad,
-    }
+    text.len() % 2 == 0 && are_digits(text)
+}
+
+fn are_digits(text: &[u8]) -> bool
+    ensures { IsTrue result ↔ AllPass is_hex_digit text.now }
+{
+    text.iter().all(|digit| digit.is_ascii_hexdigit())
 }
