@@ -3,11 +3,11 @@ use Rattle.std.specs.Prelude.{ℕ, List, [], ◌∷◌, ◌++◌, codes}
 use Rattle.std.specs.Fmt.{decimal}
 use Rattle.script_model.specs.Lines.{line_feed}
 
--- All was written; the words are no command; a line is none of a script; what was asked for is refused by name.
+-- All was written; the words are no command; a line is none of a script or stands where it may not; what was asked for is refused by name.
 pub data Ending : Type 0 where
   done : Ending
   usage : Ending
-  unread : Ending
+  syntax : Ending
   refused : Ending
 
 pub record Output : Type 0 where
@@ -29,7 +29,7 @@ bad_command = record { bytes = line_of (codes "bad command"); ending = usage }
 
 -- the line with this number is refused
 abbrev pub syntax_at : ℕ → Output
-syntax_at number = record { bytes = line_of (codes "syntax " ++ decimal number); ending = unread }
+syntax_at number = record { bytes = line_of (codes "syntax " ++ decimal number); ending = syntax }
 
 -- the state would have more pairs than it may
 abbrev pub full_pairs : Output

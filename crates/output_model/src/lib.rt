@@ -1,2 +1,5 @@
 //! What the program writes, and how it ends.
 #![tactic(auto)]
+
+pub mod examples;
+pub mod laws;

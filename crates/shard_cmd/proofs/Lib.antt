@@ -1,2 +1,5 @@
-pub mod Runs
+pub mod Stops
+pub mod Laid
 pub mod Scripts
+pub mod Replies
+pub mod Runs

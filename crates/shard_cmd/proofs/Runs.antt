@@ -1,14 +1,16 @@
 -- How a run ends, by what was written last.
-use Rattle.std.proofs.Common.{◌≡◌, ℕ, List, Option, Some, None, Result, Ok, IfOk, IfSome, ap, subst, ◌∙◌}
+use Rattle.std.proofs.Common.{◌≡◌, ℕ, List, Option, Some, None, Result, Ok, IfOk, IfSome, ◌⊎◌, inl, inr, refl, sym, ap, subst, ◌∙◌}
 use Rattle.script_model.specs.Words.{Command, root, command_of}
 use Rattle.output_model.specs.Root.{root_output}
-use Rattle.output_model.specs.Ends.{Output, Ending, RunLimits, bad_command}
+use Rattle.output_model.specs.Ends.{Output, Ending, RunLimits}
 use Rattle.output_model.specs.Output.{output_of, command_output}
 use Rattle.script_io.specs.declared.command.Command.{Command as Asked}
 use Rattle.script_io.specs.declared.command.Command.TheVariants.{Root}
 use Rattle.script_io.specs.Meanings.{command}
 use Rattle.shard_cmd.specs.declared.reply.Reply.{Reply}
-use Rattle.shard_cmd.specs.Ends.{ending_of, EndsAs}
+use Rattle.shard_cmd.specs.declared.status.Status.{Status}
+use Rattle.shard_cmd.specs.declared.status.Status.TheVariants.{WriteFault}
+use Rattle.shard_cmd.specs.Ends.{ending_of, EndsAs, HasEnding}
 use Rattle.shard_cmd.specs.Replies.{IsReply}
 
 output_of-command : (limits : RunLimits) (words : List (List ℕ)) (input : List ℕ) (o : Option Command) → command_of words ≡ o → output_of limits words input ≡ command_output limits o input
@@ -23,19 +25,20 @@ pub ends_with_reply : (limits : RunLimits) (left written after : Option (List �
 ends_with_reply limits None written after reply bytes ending is same ends = tt
 ends_with_reply limits (Some input) written after reply bytes ending is same ends = ends (root_output limits input) (same ∙ is.bytes) is.ending
 
--- the output of the command `root`
-pub ends_as_root : (limits : RunLimits) (words : List (List ℕ)) (left written after : Option (List ℕ)) (ending : Option Ending) → command_of words ≡ Some root
-    → IfSome left (λ input. IfSome written (λ before. EndsAs (root_output limits input) ending before after))
-    → IfSome left (λ input. IfSome written (λ before. EndsAs (output_of limits words input) ending before after))
-ends_as_root limits words None written after ending e h = tt
-ends_as_root limits words (Some input) written after ending e h = rw (output_of-command limits words input (Some root) e) h
+-- what holds of the output of the command that the words are
+pub by_command : (P : Output → Type 0) (limits : RunLimits) (words : List (List ℕ)) (left : Option (List ℕ)) (o : Option Command) → command_of words ≡ o
+    → IfSome left (λ input. P (command_output limits o input)) → IfSome left (λ input. P (output_of limits words input))
+by_command P limits words None o e h = tt
+by_command P limits words (Some input) o e h = subst P (sym (output_of-command limits words input o e)) h
 
--- the output where the words are no command
-pub ends_as_bad : (limits : RunLimits) (words : List (List ℕ)) (left written after : Option (List ℕ)) (ending : Option Ending) → command_of words ≡ None
-    → IfSome written (λ before. EndsAs bad_command ending before after)
-    → IfSome left (λ input. IfSome written (λ before. EndsAs (output_of limits words input) ending before after))
-ends_as_bad limits words None written after ending e h = tt
-ends_as_bad limits words (Some input) written after ending e h = rw (output_of-command limits words input None e) h
+pub told : (left : Option (List ℕ)) {P : Type 0} → P → IfSome left (λ _. P)
+told None h = tt
+told (Some input) h = h
+
+-- a writing of the last bytes ends as they do
+pub has_ending : (output : Output) (status : Status) (ended : Status) {W : Type 0} → ending_of status ≡ Some output.ending → (ended ≡ status) ⊎ ((ended ≡ WriteFault) × W) → HasEnding output (ending_of ended)
+has_ending output status ended e (inl same) = rw (same, e) refl
+has_ending output status ended e (inr fault) = rw fault.0 tt
 
 -- a command that was read is `root`
 pub root_read : {E : Type 0} (words : List (List ℕ)) (r : Result Asked E) (found : Asked) → r ≡ Ok found → IfOk r (λ f. command_of words ≡ Some (command f)) → command_of words ≡ Some root

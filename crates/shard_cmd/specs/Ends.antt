@@ -1,7 +1,7 @@
 -- How the status of a run and the bytes that it wrote stand to the output that is defined.
-use Rattle.std.specs.Prelude.{◌≡◌, ℕ, List, ◌++◌, Option, None, Some, ◌⊎◌}
+use Rattle.std.specs.Prelude.{◌≡◌, ℕ, List, ◌++◌, Option, None, Some, IfSome, ◌⊎◌}
 use Rattle.base_core.specs.declared.limits.Limits.{Limits}
-use Rattle.output_model.specs.Ends.{Output, Ending, RunLimits, done, usage, unread, refused}
+use Rattle.output_model.specs.Ends.{Output, Ending, RunLimits, done, usage, syntax, refused}
 use Rattle.script_io.specs.Streams.{AppendsPrefix}
 use Rattle.shard_cmd.specs.declared.status.Status.{Status}
 use Rattle.shard_cmd.specs.declared.status.Status.TheVariants.{Done, NoMemory, Usage, Syntax, Refused, ReadFault, WriteFault}
@@ -15,7 +15,7 @@ abbrev pub ending_of : Status → Option Ending
 ending_of Done = Some done
 ending_of NoMemory = None
 ending_of Usage = Some usage
-ending_of Syntax = Some unread
+ending_of Syntax = Some syntax
 ending_of Refused = Some refused
 ending_of ReadFault = None
 ending_of WriteFault = None
@@ -24,6 +24,10 @@ ending_of WriteFault = None
 abbrev pub EndsAs : Output → Option Ending → List ℕ → Option (List ℕ) → Type 0
 EndsAs output (Some ending) before after = (ending ≡ output.ending) × (after ≡ Some (before ++ output.bytes))
 EndsAs output None before after = AppendsPrefix before after output.bytes
+
+-- The status is the defined ending, unless memory or an object of the outside failed.
+abbrev pub HasEnding : Output → Option Ending → Type 0
+HasEnding output ending = IfSome ending (λ e. e ≡ output.ending)
 
 -- what a run may end with whose words are no command
 abbrev pub IsUsageUnlessFailed : Status → Type 0

@@ -10,10 +10,16 @@ use Rattle.trie_model.specs.State.{State, IsPair}
 use Rattle.script_io.specs.declared.event.Event.{Event}
 use Rattle.script_io.specs.LinesStates.{LinesState as Reading}
 use Rattle.script_io.specs.Meanings.{event}
+use Rattle.script_io.specs.declared.event.EventError.{EventError}
+use Rattle.script_io.specs.declared.event.EventError.TheVariants as event_error
+use Rattle.script_io.specs.declared.line_error.LineError.{LineError}
+use Rattle.script_io.specs.declared.line_error.LineError.TheVariants as line
 use Rattle.shard_cmd.specs.declared.events.Stop.{Stop}
-use Rattle.shard_cmd.specs.declared.events.Stop.TheVariants.{Syntax, ReadFault, NoMemory}
+use Rattle.shard_cmd.specs.declared.events.Stop.TheVariants as stop
 use Rattle.shard_cmd.specs.declared.root.End.{End}
-use Rattle.shard_cmd.specs.declared.root.End.TheVariants.{Whole, Unread, Full}
+use Rattle.shard_cmd.specs.declared.root.End.TheVariants.{Whole, Syntax, Full}
+use Rattle.shard_cmd.specs.declared.status.Status.{Status}
+use Rattle.shard_cmd.specs.declared.status.Status.TheVariants as status
 
 -- what the first line of these bytes asks for, if it is read and is one of a script
 abbrev pub first_event : (before : ℕ) (bytes : List ℕ) → Option lines.Event
@@ -29,9 +35,20 @@ pub record Asks (bytes : List ℕ) (old new : Reading) (left : Option (List ℕ)
 abbrev pub NextIs : (bytes : List ℕ) (old new : Reading) (left : Option (List ℕ)) → Result (Option Event) Stop → Type 0
 NextIs bytes old new left (Ok None) = (bytes ≡ []) × (left ≡ Some [])
 NextIs bytes old new left (Ok (Some asked)) = Asks bytes old new left (event asked)
-NextIs bytes old new left (Err Syntax) = (length bytes ≢ 0) × (first_event old.before bytes ≡ None)
-NextIs bytes old new left (Err ReadFault) = Unit {0}
-NextIs bytes old new left (Err NoMemory) = Unit {0}
+NextIs bytes old new left (Err stop.Syntax) = (length bytes ≢ 0) × (first_event old.before bytes ≡ None)
+NextIs bytes old new left (Err stop.ReadFault) = Unit {0}
+NextIs bytes old new left (Err stop.NoMemory) = Unit {0}
+
+-- which stop an error of a line is, and which an error of an event
+abbrev pub line_stop : LineError → Stop
+line_stop line.Long = stop.Syntax
+line_stop line.Past = stop.Syntax
+line_stop line.ReadFault = stop.ReadFault
+line_stop line.NoMemory = stop.NoMemory
+
+abbrev pub event_stop : EventError → Stop
+event_stop event_error.Bad = stop.Syntax
+event_stop event_error.NoMemory = stop.NoMemory
 
 -- one more line was handed out
 pub record IsNext (old new : Reading) : Type 0 where
@@ -42,8 +59,14 @@ pub record IsNext (old new : Reading) : Type 0 where
 -- the output at the end of a script, where it left the pairs of this state
 abbrev pub end_output : End → State → Output
 end_output Whole state = root_done state
-end_output (Unread number) state = syntax_at number
+end_output (Syntax number) state = syntax_at number
 end_output Full state = full_pairs
+
+-- how a script ends that stops at the line with this number
+abbrev pub stopped_at : Stop → ℕ → Result End Status
+stopped_at stop.Syntax number = Ok (Syntax number)
+stopped_at stop.ReadFault number = Err status.ReadFault
+stopped_at stop.NoMemory number = Err status.NoMemory
 
 -- whether there is no room for a pair of this key
 abbrev pub is_full : PairMap → List ℕ → Bool
@@ -54,9 +77,17 @@ abbrev pub SetsPair : lines.Event → Type 0
 SetsPair lines.nothing = Unit {0}
 SetsPair (lines.set key value) = IsPair (key, value)
 
+-- whether there is room for what an event asks for
+abbrev pub has_room : PairMap → lines.Event → Bool
+has_room held lines.nothing = true
+has_room held (lines.set key value) = not (is_full held key)
+
+-- what is held once an event was done
+abbrev pub after_event : PairMap → lines.Event → PairMap
+after_event held lines.nothing = held
+after_event held (lines.set key value) = laid held key value
+
 -- What an event asks for was done, where there was room for it; else nothing was.
 abbrev pub Lays : (old new : PairMap) → lines.Event → Bool → Type 0
-Lays old new lines.nothing true = new ≡ old
-Lays old new lines.nothing false = ⊥
-Lays old new (lines.set key value) true = (is_full old key ≡ false) × (new ≡ laid old key value)
-Lays old new (lines.set key value) false = (is_full old key ≡ true) × (new ≡ old)
+Lays old new asked true = (has_room old asked ≡ true) × (new ≡ after_event old asked)
+Lays old new asked false = (has_room old asked ≡ false) × (new ≡ old)

@@ -1,6 +1,6 @@
 ghost use Rattle.std.specs.Prelude.{◌≡◌, ◌+◌, ◌≤◌, ◌++◌, Err, IfOk, IfSome};
 ghost use Rattle.base_core.specs.Faults.{Rose};
-ghost use Rattle.shard_cmd.specs.Events.{NextIs, IsNext, SetsPair};
+ghost use Rattle.shard_cmd.specs.Events.{NextIs, IsNext, SetsPair, line_stop, event_stop};
 ghost use Rattle.script_io.specs.Meanings.{event};
 
 use script_io::{Event, EventError, LineError, Lines, Source, read_event};
@@ -15,6 +15,29 @@ pub enum Stop {
     ReadFault,
     /// There was no memory.
     NoMemory,
+}
+
+impl From<LineError> for Stop {
+    fn from(error: LineError) -> Stop
+        ensures { result ≡ line_stop error }
+    {
+        match error {
+            LineError::Long | LineError::Past => Stop::Syntax,
+            LineError::ReadFault => Stop::ReadFault,
+            LineError::NoMemory => Stop::NoMemory,
+        }
+    }
+}
+
+impl From<EventError> for Stop {
+    fn from(error: EventError) -> Stop
+        ensures { result ≡ event_stop error }
+    {
+        match error {
+            EventError::Bad => Stop::Syntax,
+            EventError::NoMemory => Stop::NoMemory,
+        }
+    }
 }
 
 /// What the next line of a script asks for, or nothing at the end of the input.
@@ -33,13 +56,9 @@ pub fn next_event<S: Source>(
     match lines.next(source) {
         Ok(Some(line)) => match read_event(alloc, line) {
             Ok(event) => Ok(Some(event)),
-            Err(EventError::Bad) => Err(Stop::Syntax),
-            Err(EventError::NoMemory) => Err(Stop::NoMemory),
+            Err(error) => Err(Stop::from(error)),
         },
         Ok(None) => Ok(None),
-        Err(LineError::Long) => Err(Stop::Syntax),
-        Err(LineError::Past) => Err(Stop::Syntax),
-        Err(LineError::ReadFault) => Err(Stop::ReadFault),
-        Err(LineError::NoMemory) => Err(Stop::NoMemory),
+        Err(error) => Err(Stop::from(error)),
     }
 }

@@ -1,11 +1,11 @@
-ghost use Rattle.std.specs.Prelude.{◌≡◌, ◌≤◌, [], Some, IfOk, IfErr, IfSome, ◌⊎◌};
+ghost use Rattle.std.specs.Prelude.{◌≡◌, ◌≤◌, [], false, Some, Ok, IfOk, IfErr, IfSome, OnErr, ◌⊎◌};
 ghost use Rattle.std.specs.FinMap.{empty};
 ghost use Rattle.base_core.specs.Bounds.{AreLimits};
 ghost use Rattle.base_core.specs.Faults.{Rose};
 ghost use Rattle.output_model.specs.Ends.{RunLimits};
 ghost use Rattle.output_model.specs.Root.{root_output};
 ghost use Rattle.shard_cmd.specs.Ends.{run_limits, IsAnswer};
-ghost use Rattle.shard_cmd.specs.Events.{end_output, SetsPair, Lays};
+ghost use Rattle.shard_cmd.specs.Events.{end_output, stopped_at, SetsPair, has_room, Lays};
 ghost use Rattle.script_io.specs.Meanings.{event};
 ghost use Rattle.shard_cmd.specs.Replies.{IsReply};
 
@@ -22,8 +22,8 @@ use trie_shape::build;
 pub enum End {
     /// With the end of the input.
     Whole,
-    /// At a line that is none of a script, with its number.
-    Unread(u64),
+    /// At the line with this number, which is none of a script.
+    Syntax(u64),
     /// At a pair for which there is no room.
     Full,
 }
@@ -59,7 +59,7 @@ fn end_reply(alloc: Global, end: End, pairs: &Pairs) -> Result<Reply, AllocError
 {
     match end {
         End::Whole => root_reply(alloc, &build(alloc, pairs)?),
-        End::Unread(number) => syntax_reply(alloc, number),
+        End::Syntax(number) => syntax_reply(alloc, number),
         End::Full => full_reply(alloc),
     }
 }
@@ -86,10 +86,19 @@ pub fn read_pairs<S: Source>(
                 Ok(false) => return Ok(End::Full),
                 Err(_) => return Err(Status::NoMemory),
             },
-            Err(Stop::Syntax) => return Ok(End::Unread(lines.number())),
-            Err(Stop::ReadFault) => return Err(Status::ReadFault),
-            Err(Stop::NoMemory) => return Err(Status::NoMemory),
+            Err(stop) => return stopped(stop, lines.number()),
         }
+    }
+}
+
+/// How a script ends that stops at the line with this number.
+fn stopped(stop: Stop, number: u64) -> Result<End, Status>
+    ensures { result ≡ stopped_at stop number }
+{
+    match stop {
+        Stop::Syntax => Ok(End::Syntax(number)),
+        Stop::ReadFault => Err(Status::ReadFault),
+        Stop::NoMemory => Err(Status::NoMemory),
     }
 }
 
@@ -97,6 +106,8 @@ pub fn read_pairs<S: Source>(
 fn lay(pairs: &mut Pairs, asked: Event) -> Result<bool, AllocError>
     requires { SetsPair (event asked) }
     ensures lays { IfOk result (Lays pairs.old pairs.new (event asked)) }
+    ensures refused { has_room pairs.old (event asked) ≡ false → result ≡ Ok false }
+    ensures err { OnErr result (pairs.new ≡ pairs.old) }
     ensures most { pairs.new.most ≡ pairs.old.most }
 {
     match asked {
@@ -104,8 +115,8 @@ fn lay(pairs: &mut Pairs, asked: Event) -> Result<bool, AllocError>
         Event::Set { key, value } => match pairs.put(key, value) {
             Ok(()) => Ok(true),
             Err(PutError::Full) => Ok(false),
-            // The key and the value are within their limits, so there was no memory.
-            Err(_) => Err(AllocError),
+            Err(PutError::NoMemory) => Err(AllocError),
+            Err(PutError::KeyLong { .. } | PutError::ValueLong { .. }) => unreachable!(),
         },
     }
 }

@@ -2,10 +2,10 @@ ghost use Rattle.std.specs.Prelude.{◌≡◌, ◌≢◌, ◌≤◌, ◌⊎◌, 
 ghost use Rattle.base_core.specs.Bounds.{AreLimits};
 ghost use Rattle.base_core.specs.Faults.{Rose};
 ghost use Rattle.script_model.specs.Words.{command_of};
-ghost use Rattle.output_model.specs.Ends.{Output};
+ghost use Rattle.output_model.specs.Ends.{Output, bad_command};
 ghost use Rattle.output_model.specs.Root.{root_output};
 ghost use Rattle.output_model.specs.Output.{output_of};
-ghost use Rattle.shard_cmd.specs.Ends.{run_limits, ending_of, EndsAs, IsUsageUnlessFailed};
+ghost use Rattle.shard_cmd.specs.Ends.{run_limits, ending_of, EndsAs, HasEnding, IsUsageUnlessFailed};
 
 use crate::root::answer_root;
 use crate::status::Status;
@@ -28,6 +28,11 @@ pub fn run<S: Source, K: Sink>(
     ensures output { IfSome (S.left source.old) (λ input. IfSome (K.written sink.old) (λ before.
         EndsAs (output_of (run_limits limits.now) words.now input) (ending_of result) before (K.written sink.new))) }
     ensures nothing_left { result ≡ Status.Done → IfSome (S.left source.old) (λ _. S.left source.new ≡ Some []) }
+
+    // Where the sink tells nothing, the status; and where the source tells nothing, the bytes of the
+    // one output that no input changes.
+    ensures status { IfSome (S.left source.old) (λ input. HasEnding (output_of (run_limits limits.now) words.now input) (ending_of result)) }
+    ensures bad_command { command_of words.now ≡ None → IfSome (K.written sink.old) (λ before. EndsAs bad_command (ending_of result) before (K.written sink.new)) }
 
     // Words that are no command, also where the source and the sink tell nothing.
     ensures usage { result ≡ Status.Usage → command_of words.now ≡ None }
@@ -57,6 +62,7 @@ fn run_root<S: Source, K: Sink>(
     requires { AreLimits limits.now }
     ensures output { IfSome (S.left source.old) (λ input. IfSome (K.written sink.old) (λ before.
         EndsAs (root_output (run_limits limits.now) input) (ending_of result) before (K.written sink.new))) }
+    ensures status { IfSome (S.left source.old) (λ input. HasEnding (root_output (run_limits limits.now) input) (ending_of result)) }
     ensures nothing_left { result ≡ Status.Done → IfSome (S.left source.old) (λ _. S.left source.new ≡ Some []) }
     ensures no_usage { result ≢ Status.Usage }
     ensures source_counts { S.faults source.old ≤ S.faults source.new }

@@ -25,6 +25,9 @@ const THREE_PAIRS: &[u8] =
 const LONGEST_KEY: &[u8] =
     b"root f9b499e2766e52a17f98df2f0adc55534ac76dac94d63f20e44d1cdbca27b029 4331\n";
 
+const LONGEST_KEY_ALONE: &[u8] =
+    b"root dede5370d83325011dfa6876efc4d8b223f29d8b0a44c5410f7f3aead7f4a479 4330\n";
+
 const NESTED_KEYS: &[u8] =
     b"root 0d01049e271b765a439d3f682300429c4ee901aa3e5c7662633bbf799841b9ca 321378\n";
 
@@ -87,12 +90,7 @@ fn scripts(rt: HostRuntime) -> Result<(), Fail> {
     let input = b"set 61 61\nset 62 62\nset 61 -\n";
     expect(&rt, alloc, input, LATER_VALUE, done)?;
     let input = b"set 61 -\nset 62 62\n";
-    expect(&rt, alloc, input, LATER_VALUE, done)
-}
-
-#[test]
-fn bad_lines(rt: HostRuntime) -> Result<(), Fail> {
-    let alloc = rt.alloc();
+    expect(&rt, alloc, input, LATER_VALUE, done)?;
     let bad = Status::Syntax;
     expect(&rt, alloc, b"set 61 61\r\n", b"syntax 1\n", bad)?;
     expect(&rt, alloc, b"set 61  61\n", b"syntax 1\n", bad)?;
@@ -102,23 +100,33 @@ fn bad_lines(rt: HostRuntime) -> Result<(), Fail> {
     expect(&rt, alloc, input, b"syntax 4\n", bad)
 }
 
-/// A script of one line, whose key has so many bytes.
-fn long_key(alloc: Global, size: usize) -> Result<Vec<u8>, AllocError> {
+/// A script of one line, whose key has so many bytes, each of them 61.
+fn long_key(alloc: Global, length: usize, value: &[u8]) -> Result<Vec<u8>, AllocError> {
     let mut script = Vec::new(alloc);
     script.extend_from_slice(b"set ")?;
-    for _ in 0..size {
+    for _ in 0..length {
         script.extend_from_slice(b"61")?;
     }
-    script.extend_from_slice(b" 62\n")?;
+    script.extend_from_slice(b" ")?;
+    script.extend_from_slice(value)?;
+    script.extend_from_slice(b"\n")?;
     Ok(script)
 }
 
 #[test]
 fn longest_key(rt: HostRuntime) -> Result<(), Fail> {
     let alloc = rt.alloc();
-    let input = long_key(alloc, 2114)?;
+    let input = long_key(alloc, 2114, b"62")?;
     expect(&rt, alloc, input.as_slice(), LONGEST_KEY, Status::Done)?;
-    let input = long_key(alloc, 2115)?;
+    let input = long_key(alloc, 2114, b"-")?;
+    expect(
+        &rt,
+        alloc,
+        input.as_slice(),
+        LONGEST_KEY_ALONE,
+        Status::Done,
+    )?;
+    let input = long_key(alloc, 2115, b"-")?;
     expect(&rt, alloc, input.as_slice(), b"syntax 1\n", Status::Syntax)
 }
 
@@ -127,9 +135,9 @@ fn nested_keys(alloc: Global) -> Result<Vec<u8>, AllocError> {
     let mut script = Vec::new(alloc);
     script.extend_from_slice(b"set - -\n")?;
     let zeros = [b'0'; 4228];
-    for size in 1..2115 {
+    for length in 1..2115 {
         script.extend_from_slice(b"set ")?;
-        script.extend_from_slice(&zeros[..2 * size])?;
+        script.extend_from_slice(&zeros[..2 * length])?;
         script.extend_from_slice(b" -\n")?;
     }
     Ok(script)
@@ -139,13 +147,8 @@ fn nested_keys(alloc: Global) -> Result<Vec<u8>, AllocError> {
 fn deepest_trie(rt: HostRuntime) -> Result<(), Fail> {
     let alloc = rt.alloc();
     let input = nested_keys(alloc)?;
-    let limits = Limits {
-        pairs: 2115,
-        ..Limits::FULL
-    };
-    let done = Status::Done;
-    let input = input.as_slice();
-    expect_by(&rt, alloc, &limits, input, 65536, NESTED_KEYS, done)
+    let (limits, input) = (&Limits::FULL, input.as_slice());
+    expect_by(&rt, alloc, limits, input, 65536, NESTED_KEYS, Status::Done)
 }
 
 #[test]

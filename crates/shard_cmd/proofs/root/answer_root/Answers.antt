@@ -1,6 +1,6 @@
 use Rattle.std.proofs.Common.{sym}
 use Rattle.shard_cmd.specs.Ends.{run_limits}
-use Rattle.shard_cmd.proofs.Scripts.{replies_to}
+use Rattle.shard_cmd.proofs.Replies.{replies_to}
 use Rattle.shard_cmd.proofs.root.answer_root.Goals as goal
 
 pub returns-in-Ok-end_reply-clause-reply : goal.returns-in-Ok-end_reply-clause-reply

@@ -1,4 +1,4 @@
-use Rattle.shard_cmd.proofs.Scripts.{built_reply}
+use Rattle.shard_cmd.proofs.Replies.{built_reply}
 use Rattle.shard_cmd.proofs.root.end_reply.Goals as goal
 
 pub returns-in_ok-build-in-Whole-clause-reply : goal.returns-in_ok-build-in-Whole-clause-reply

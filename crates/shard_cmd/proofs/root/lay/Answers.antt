@@ -1,10 +1,25 @@
-use Rattle.std.proofs.Common.{ap, ◌∙◌, Err}
+use Rattle.std.proofs.Common.{ap, ◌∙◌, sym, Err}
 use Rattle.script_io.specs.Meanings.{event}
-use Rattle.shard_cmd.proofs.Scripts.{lays_ok, lays_full}
+use Rattle.shard_cmd.proofs.Laid.{event_laid}
 use Rattle.shard_cmd.proofs.root.lay.Goals as goal
 
 pub returns-in-Ok-clause-lays : goal.returns-in-Ok-clause-lays
-returns-in-Ok-clause-lays c = lays_ok _ _ c.args.asked _ _ c.put.result (ap event c.in-Set.is) c.requires record { refused = c.put.ensures.refused; taken = c.put.ensures.taken; ok = c.put.ensures.ok; err = c.put.ensures.err } c.in-Ok.is
+returns-in-Ok-clause-lays c =
+    let laid = event_laid _ _ c.args.asked _ _ c.put.result (ap event c.in-Set.is) c.requires record { refused = c.put.ensures.refused; taken = c.put.ensures.taken; ok = c.put.ensures.ok; err = c.put.ensures.err } in
+    rw c.in-Ok.is at laid.ok
+
+pub returns-in-Ok-clause-refused : goal.returns-in-Ok-clause-refused
+returns-in-Ok-clause-refused c = λ none.
+    let laid = event_laid _ _ c.args.asked _ _ c.put.result (ap event c.in-Set.is) c.requires record { refused = c.put.ensures.refused; taken = c.put.ensures.taken; ok = c.put.ensures.ok; err = c.put.ensures.err } in
+    let room = (rw c.in-Ok.is at laid.ok).0 in
+    absurd (cc (sym none ∙ room))
 
 pub returns-in-Err-Full-clause-lays : goal.returns-in-Err-Full-clause-lays
-returns-in-Err-Full-clause-lays c = lays_full _ _ c.args.asked _ _ c.put.result (ap event c.in-Set.is) c.requires record { refused = c.put.ensures.refused; taken = c.put.ensures.taken; ok = c.put.ensures.ok; err = c.put.ensures.err } (c.in-Err-Full.is ∙ ap Err c.in-Err-Full.field-0-is)
+returns-in-Err-Full-clause-lays c =
+    let laid = event_laid _ _ c.args.asked _ _ c.put.result (ap event c.in-Set.is) c.requires record { refused = c.put.ensures.refused; taken = c.put.ensures.taken; ok = c.put.ensures.ok; err = c.put.ensures.err } in
+    laid.full (c.in-Err-Full.is ∙ ap Err c.in-Err-Full.field-0-is)
+
+pub returns-in-Err-NoMemory-clause-refused : goal.returns-in-Err-NoMemory-clause-refused
+returns-in-Err-NoMemory-clause-refused c = λ none.
+    let laid = event_laid _ _ c.args.asked _ _ c.put.result (ap event c.in-Set.is) c.requires record { refused = c.put.ensures.refused; taken = c.put.ensures.taken; ok = c.put.ensures.ok; err = c.put.ensures.err } in
+    absurd (cc (sym none ∙ laid.no_memory (c.in-Err-NoMemory.is ∙ ap Err c.in-Err-NoMemory.field-0-is)))

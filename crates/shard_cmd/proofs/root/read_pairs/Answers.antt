@@ -1,5 +1,5 @@
 use Rattle.std.proofs.Common.{refl, ◌∙◌, arith}
-use Rattle.shard_cmd.proofs.Scripts.{IsUpTo-begin, IsUpTo-laid, ends_whole, ends_unread, ends_full, nothing_left}
+use Rattle.shard_cmd.proofs.Scripts.{IsUpTo-begin, IsUpTo-laid, ends_whole, ends_stopped, ends_full, nothing_left}
 use Rattle.shard_cmd.proofs.root.read_pairs.Goals as goal
 
 pub loop-lines-init : goal.loop-lines-init
@@ -32,7 +32,8 @@ returns-in-Ok-false-clause-end g c = λ limits same.
     ends_full (g.S.Source.left c.args.source.now) (g.S.Source.left c.loop-lines.source) (g.S.Source.left c.next_event.new.source) _ c.loop-lines.lines c.next_event.new.lines c.loop-lines.pairs c.lay.new.pairs c.in-Ok-Some.event limits same
     c.loop-lines.invariant.most (rw c.in-Ok-Some.field-0-is at c.in-Ok-Some.ensures.more) (rw c.in-Ok-Some.field-0-is at c.in-Ok-Some.ensures.next) (rw c.in-Ok-false.field-0-test at c.in-Ok-false.ensures.lays) c.loop-lines.invariant.up_to
 
-pub returns-in-Err-Syntax-clause-end : goal.returns-in-Err-Syntax-clause-end
-returns-in-Err-Syntax-clause-end g c = λ limits same.
-    ends_unread (g.S.Source.left c.args.source.now) (g.S.Source.left c.loop-lines.source) (g.S.Source.left c.next_event.new.source) _ c.number.result c.loop-lines.lines c.next_event.new.lines c.loop-lines.pairs.state limits same
-    (c.number.ensures ∙ c.next_event.ensures.number) c.loop-lines.invariant.up_to (rw c.in-Err-Syntax.field-0-is at c.in-Err-Syntax.ensures.next)
+pub returns-in-Err-clause-end : goal.returns-in-Err-clause-end
+returns-in-Err-clause-end g c = λ limits same.
+    rw c.stopped.ensures
+    (ends_stopped (g.S.Source.left c.args.source.now) (g.S.Source.left c.loop-lines.source) (g.S.Source.left c.next_event.new.source) _ c.number.result c.loop-lines.lines c.next_event.new.lines c.loop-lines.pairs.state limits c.in-Err.stop same
+    (c.number.ensures ∙ c.next_event.ensures.number) c.loop-lines.invariant.up_to c.in-Err.ensures.next)

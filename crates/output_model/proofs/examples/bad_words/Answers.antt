@@ -1,0 +1,15 @@
+use Rattle.std.proofs.Common.{refl}
+use Rattle.output_model.specs.Output.{output_of}
+use Rattle.output_model.proofs.examples.bad_words.Goals as goal
+
+pub returns-clause-none : goal.returns-clause-none
+unfolding output_of
+returns-clause-none c = λ limits input. refl
+
+pub returns-clause-other : goal.returns-clause-other
+unfolding output_of
+returns-clause-other c = λ limits input. refl
+
+pub returns-clause-second : goal.returns-clause-second
+unfolding output_of
+returns-clause-second c = λ limits input. refl
