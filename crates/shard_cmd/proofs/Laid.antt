@@ -4,7 +4,8 @@ use Rattle.std.specs.Prelude.{if◌then◌else◌, IsOkUnless}
 use Rattle.std.specs.FinMap.{len-entries}
 use Rattle.std.proofs.lemmas.Bool.{le-ltb}
 use Rattle.script_model.specs.Lines as lines
-use Rattle.trie_model.specs.State.{IsPair}
+use Rattle.byte_model.specs.Node.{longest_value}
+use Rattle.trie_model.specs.State.{longest_key, IsPair}
 use Rattle.base_core.specs.declared.put_error.PutError.{PutError}
 use Rattle.base_core.specs.declared.put_error.PutError.TheVariants.{Full, NoMemory}
 use Rattle.base_core.specs.PairMaps.{PairMap, laid, refusal}
@@ -20,7 +21,7 @@ pub record IsPut (old new : PairMap) (key value : List ℕ) (r : Result Unit Put
   pub err : OnErr r (new ≡ old)
 
 refusal-pair : (held : PairMap) (key value : List ℕ) → IsPair (key, value) → refusal held key value ≡ (if is_full held key then Some Full else None)
-refusal-pair held key value pair = rw (le-ltb 2114 (length key) pair.key_length, le-ltb 4194304 (length value) pair.value_length, len-entries held.state) refl
+refusal-pair held key value pair = rw (le-ltb longest_key (length key) pair.key_length, le-ltb longest_value (length value) pair.value_length, len-entries held.state) refl
 
 -- Only for want of room is a pair within the limits refused.
 data Answer (old new : PairMap) (key value : List ℕ) (r : Result Unit PutError) : Type 0 where

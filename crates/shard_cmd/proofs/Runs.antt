@@ -1,5 +1,5 @@
 -- How a run ends, by what was written last.
-use Rattle.std.proofs.Common.{◌≡◌, ℕ, List, Option, Some, None, Result, Ok, IfOk, IfSome, ◌⊎◌, inl, inr, refl, sym, ap, subst, ◌∙◌}
+use Rattle.std.proofs.Common.{◌≡◌, ℕ, List, Option, Some, None, Result, Ok, IfOk, IfSome, inl, inr, refl, sym, ap, subst, ◌∙◌}
 use Rattle.script_model.specs.Words.{Command, root, command_of}
 use Rattle.output_model.specs.Root.{root_output}
 use Rattle.output_model.specs.Ends.{Output, Ending, RunLimits}
@@ -9,8 +9,7 @@ use Rattle.script_io.specs.declared.command.Command.TheVariants.{Root}
 use Rattle.script_io.specs.Meanings.{command}
 use Rattle.shard_cmd.specs.declared.reply.Reply.{Reply}
 use Rattle.shard_cmd.specs.declared.status.Status.{Status}
-use Rattle.shard_cmd.specs.declared.status.Status.TheVariants.{WriteFault}
-use Rattle.shard_cmd.specs.Ends.{ending_of, EndsAs, HasEnding}
+use Rattle.shard_cmd.specs.Ends.{ending_of, EndsAs, HasEnding, FinishesAs}
 use Rattle.shard_cmd.specs.Replies.{IsReply}
 
 output_of-command : (limits : RunLimits) (words : List (List ℕ)) (input : List ℕ) (o : Option Command) → command_of words ≡ o → output_of limits words input ≡ command_output limits o input
@@ -35,10 +34,10 @@ pub told : (left : Option (List ℕ)) {P : Type 0} → P → IfSome left (λ _. 
 told None h = tt
 told (Some input) h = h
 
--- a writing of the last bytes ends as they do
-pub has_ending : (output : Output) (status : Status) (ended : Status) {W : Type 0} → ending_of status ≡ Some output.ending → (ended ≡ status) ⊎ ((ended ≡ WriteFault) × W) → HasEnding output (ending_of ended)
-has_ending output status ended e (inl same) = rw (same, e) refl
-has_ending output status ended e (inr fault) = rw fault.0 tt
+-- the last bytes of a run are written
+pub has_ending : (output : Output) (status end : Status) (before now : ℕ) → ending_of status ≡ Some output.ending → FinishesAs status end before now → HasEnding output (ending_of end)
+has_ending output status end before now e (inl written) = rw (written.0, e) refl
+has_ending output status end before now e (inr fault) = rw fault.0 tt
 
 -- a command that was read is `root`
 pub root_read : {E : Type 0} (words : List (List ℕ)) (r : Result Asked E) (found : Asked) → r ≡ Ok found → IfOk r (λ f. command_of words ≡ Some (command f)) → command_of words ≡ Some root

@@ -1,5 +1,5 @@
 -- The output of a script, event by event.
-use Rattle.std.proofs.Common.{◌≡◌, ℕ, ◌+◌, Bool, true, false, not, List, [], ◌++◌, length, Option, Some, None, Result, Ok, Err, IfSome, IfOk, refl, sym, ap, subst, ◌∙◌}
+use Rattle.std.proofs.Common.{◌≡◌, ℕ, ◌+◌, Bool, true, false, not, List, [], ◌++◌, length, Option, Some, None, Ok, Err, IfSome, IfOk, refl, sym, ap, subst, ◌∙◌}
 use Rattle.std.specs.FinMap.{empty}
 use Rattle.script_model.specs.Lines as lines
 use Rattle.script_model.specs.Lines.{pieces, first_line, first_feed, behind_line, event_of}
@@ -12,11 +12,10 @@ use Rattle.output_model.proofs.Steps as steps
 use Rattle.output_model.proofs.Steps.{first_output}
 use Rattle.base_core.specs.PairMaps.{PairMap}
 use Rattle.script_io.specs.declared.event.Event.{Event}
-use Rattle.script_io.specs.Reading.{Reading}
+use Rattle.script_io.specs.LinesStates.{LinesState}
 use Rattle.script_io.specs.Meanings.{event}
 use Rattle.shard_cmd.specs.declared.events.Stop.{Stop}
 use Rattle.shard_cmd.specs.declared.events.Stop.TheVariants as stop
-use Rattle.shard_cmd.specs.declared.root.End.{End}
 use Rattle.shard_cmd.specs.Events.{end_output, stopped_at, NextIs, Asks, IsNext, is_full, SetsPair, Lays}
 
 not_true : (b : Bool) → not b ≡ true → b ≡ false
@@ -30,7 +29,7 @@ not_false false e = absurd (cc e)
 -- ---- the events of a script
 
 -- The output of a script is that of what is left of it, from the state that the lines so far made.
-pub record IsUpTo (left : Option (List ℕ)) (most : ℕ) (lines : Reading) (after : Option (List ℕ)) (state : State) : Type 0 where
+pub record IsUpTo (left : Option (List ℕ)) (most : ℕ) (lines : LinesState) (after : Option (List ℕ)) (state : State) : Type 0 where
   pub told : (limits : RunLimits) → limits.pairs ≡ most → IfSome left (λ input. (rest : List ℕ) × (after ≡ Some rest) × (root_output limits input ≡ lines_output (root_script limits) lines.before (lines.lines + 1) state (pieces (lines.pending ++ rest))))
 
 begun : (left : Option (List ℕ)) (limits : RunLimits) → IfSome left (λ input. (rest : List ℕ) × (left ≡ Some rest) × (root_output limits input ≡ lines_output (root_script limits) 0 (0 + 1) empty (pieces ([] ++ rest))))
@@ -38,11 +37,11 @@ unfolding script_output
 begun None limits = tt
 begun (Some input) limits = (input, refl, refl)
 
-pub IsUpTo-begin : (left : Option (List ℕ)) (most : ℕ) (lines : Reading) (state : State) → lines ≡ record { pending = []; before = 0; lines = 0; number = 0 } → state ≡ empty → IsUpTo left most lines left state
+pub IsUpTo-begin : (left : Option (List ℕ)) (most : ℕ) (lines : LinesState) (state : State) → lines ≡ record { pending = []; before = 0; lines = 0; number = 0 } → state ≡ empty → IsUpTo left most lines left state
 IsUpTo-begin left most lines state e f = rw (e, f) (record { told = λ limits same. begun left limits })
 
 -- by the next event
-asked_output : (limits : RunLimits) (old new : Reading) (state : State) (rest : List ℕ) (after : Option (List ℕ)) (asked : lines.Event) → Asks (old.pending ++ rest) old new after asked → new.lines ≡ old.lines + 1
+asked_output : (limits : RunLimits) (old new : LinesState) (state : State) (rest : List ℕ) (after : Option (List ℕ)) (asked : lines.Event) → Asks (old.pending ++ rest) old new after asked → new.lines ≡ old.lines + 1
     → lines_output (root_script limits) old.before (old.lines + 1) state (pieces (old.pending ++ rest))
     ≡ after_line (root_script limits) (old.lines + 1) (Some asked) state (λ s. lines_output (root_script limits) new.before (new.lines + 1) s (pieces (behind_line (old.pending ++ rest))))
 asked_output limits old new state rest after asked a n =
@@ -52,7 +51,7 @@ asked_output limits old new state rest after asked a n =
     ∙ ap (λ k. after_line (root_script limits) (old.lines + 1) (Some asked) state (λ s. lines_output (root_script limits) new.before (k + 1) s (pieces (behind_line (old.pending ++ rest))))) (sym n)
 
 -- a line that asks for nothing, and one that sets a pair
-goes_on : (left after new_after : Option (List ℕ)) (limits : RunLimits) (old new : Reading) (state next : State) (asked : lines.Event) → new.lines ≡ old.lines + 1
+goes_on : (left after new_after : Option (List ℕ)) (limits : RunLimits) (old new : LinesState) (state next : State) (asked : lines.Event) → new.lines ≡ old.lines + 1
     → ((others : State → Output) → after_line (root_script limits) (old.lines + 1) (Some asked) state others ≡ others next)
     → IfSome left (λ input. (rest : List ℕ) × (after ≡ Some rest) × (root_output limits input ≡ lines_output (root_script limits) old.before (old.lines + 1) state (pieces (old.pending ++ rest))))
     → IfSome after (λ rest. Asks (old.pending ++ rest) old new new_after asked)
@@ -62,7 +61,7 @@ goes_on (Some input) after new_after limits old new state next asked n step told
     let asks : Asks (old.pending ++ told.0) old new new_after asked = subst (λ (o : Option (List ℕ)). IfSome o (λ rest. Asks (old.pending ++ rest) old new new_after asked)) told.1 a in
     (asks.behind.0, asks.behind.1, told.2 ∙ asked_output limits old new state told.0 new_after asked asks n ∙ step _ ∙ ap (λ (bytes : List ℕ). lines_output (root_script limits) new.before (new.lines + 1) next (pieces bytes)) (sym asks.behind.2))
 
-asks_of : (after new_after : Option (List ℕ)) (old new : Reading) (found : Event) → IfSome after (λ left. NextIs (old.pending ++ left) old new new_after (Ok (Some found))) → IfSome after (λ left. Asks (old.pending ++ left) old new new_after (event found))
+asks_of : (after new_after : Option (List ℕ)) (old new : LinesState) (found : Event) → IfSome after (λ left. NextIs (old.pending ++ left) old new new_after (Ok (Some found))) → IfSome after (λ left. Asks (old.pending ++ left) old new new_after (event found))
 asks_of None new_after old new found h = tt
 asks_of (Some left) new_after old new found h = h
 
@@ -72,7 +71,7 @@ laid_step limits held next number lines.nothing same l others = ap (λ (h : Pair
 laid_step limits held next number (lines.set key value) same l others = rw (same, not_true (is_full held key) l.0) (ap (λ (h : PairMap). others h.state) (sym l.1))
 
 -- the event was done
-pub IsUpTo-laid : (left after new_after : Option (List ℕ)) (most : ℕ) (old new : Reading) (held next : PairMap) (found : Event) → held.most ≡ most → IsNext old new
+pub IsUpTo-laid : (left after new_after : Option (List ℕ)) (most : ℕ) (old new : LinesState) (held next : PairMap) (found : Event) → held.most ≡ most → IsNext old new
     → IfSome after (λ left. NextIs (old.pending ++ left) old new new_after (Ok (Some found))) → Lays held next (event found) true → IsUpTo left most old after held.state → IsUpTo left most new new_after next.state
 IsUpTo-laid left after new_after most old new held next found m step h l u = record {
   told = λ limits same. goes_on left after new_after limits old new held.state next.state (event found) step.lines (laid_step limits held next (old.lines + 1) (event found) (same ∙ sym m) l) (u.told limits same) (asks_of after new_after old new found h);
@@ -80,7 +79,7 @@ IsUpTo-laid left after new_after most old new held next found m step h l u = rec
 
 -- ---- the end of a script
 
-pub ends_whole : (left after new_after : Option (List ℕ)) (most : ℕ) (old new : Reading) (state : State) (limits : RunLimits) → limits.pairs ≡ most → IsUpTo left most old after state
+pub ends_whole : (left after new_after : Option (List ℕ)) (most : ℕ) (old new : LinesState) (state : State) (limits : RunLimits) → limits.pairs ≡ most → IsUpTo left most old after state
     → IfSome after (λ left. NextIs (old.pending ++ left) old new new_after (Ok None)) → IfSome left (λ input. root_output limits input ≡ root_done state)
 ends_whole None after new_after most old new state limits same u h = tt
 ends_whole (Some input) after new_after most old new state limits same u h =
@@ -88,14 +87,14 @@ ends_whole (Some input) after new_after most old new state limits same u h =
     let none : old.pending ++ told.0 ≡ [] = (subst (λ (o : Option (List ℕ)). IfSome o (λ left. NextIs (old.pending ++ left) old new new_after (Ok None))) told.1 h).0 in
     told.2 ∙ ap (λ (bytes : List ℕ). lines_output (root_script limits) old.before (old.lines + 1) state (pieces bytes)) none ∙ steps.end_output (root_script limits) old.before (old.lines + 1) state
 
-pub nothing_left : (left after new_after : Option (List ℕ)) (most : ℕ) (old new : Reading) (state : State) (limits : RunLimits) → limits.pairs ≡ most → IsUpTo left most old after state
+pub nothing_left : (left after new_after : Option (List ℕ)) (most : ℕ) (old new : LinesState) (state : State) (limits : RunLimits) → limits.pairs ≡ most → IsUpTo left most old after state
     → IfSome after (λ left. NextIs (old.pending ++ left) old new new_after (Ok None)) → IfSome left (λ _. new_after ≡ Some [])
 nothing_left None after new_after most old new state limits same u h = tt
 nothing_left (Some input) after new_after most old new state limits same u h =
     let told = u.told limits same in
     (subst (λ (o : Option (List ℕ)). IfSome o (λ left. NextIs (old.pending ++ left) old new new_after (Ok None))) told.1 h).1
 
-ends_syntax : (left after new_after : Option (List ℕ)) (most number : ℕ) (old new : Reading) (state : State) (limits : RunLimits) → limits.pairs ≡ most → number ≡ old.lines + 1 → IsUpTo left most old after state
+ends_syntax : (left after new_after : Option (List ℕ)) (most number : ℕ) (old new : LinesState) (state : State) (limits : RunLimits) → limits.pairs ≡ most → number ≡ old.lines + 1 → IsUpTo left most old after state
     → IfSome after (λ left. NextIs (old.pending ++ left) old new new_after (Err stop.Syntax)) → IfSome left (λ input. root_output limits input ≡ syntax_at number)
 ends_syntax None after new_after most number old new state limits same n u h = tt
 ends_syntax (Some input) after new_after most number old new state limits same n u h =
@@ -111,7 +110,7 @@ no_room limits held next number lines.nothing same l others = absurd (cc l.0)
 no_room limits held next number (lines.set key value) same l others = rw (same, not_false (is_full held key) l.0) refl
 
 -- the script stops at a line
-pub ends_stopped : (left after new_after : Option (List ℕ)) (most number : ℕ) (old new : Reading) (state : State) (limits : RunLimits) (why : Stop) → limits.pairs ≡ most → number ≡ old.lines + 1 → IsUpTo left most old after state
+pub ends_stopped : (left after new_after : Option (List ℕ)) (most number : ℕ) (old new : LinesState) (state : State) (limits : RunLimits) (why : Stop) → limits.pairs ≡ most → number ≡ old.lines + 1 → IsUpTo left most old after state
     → IfSome after (λ left. NextIs (old.pending ++ left) old new new_after (Err why)) → IfSome left (λ input. IfOk (stopped_at why number) (λ end. root_output limits input ≡ end_output end state))
 ends_stopped None after new_after most number old new state limits why same n u h = tt
 ends_stopped (Some input) after new_after most number old new state limits stop.Syntax same n u h = ends_syntax (Some input) after new_after most number old new state limits same n u h
@@ -119,7 +118,7 @@ ends_stopped (Some input) after new_after most number old new state limits stop.
 ends_stopped (Some input) after new_after most number old new state limits stop.NoMemory same n u h = tt
 
 -- there was no room for the event
-pub ends_full : (left after new_after : Option (List ℕ)) (most : ℕ) (old new : Reading) (held next : PairMap) (found : Event) (limits : RunLimits) → limits.pairs ≡ most → held.most ≡ most → IsNext old new
+pub ends_full : (left after new_after : Option (List ℕ)) (most : ℕ) (old new : LinesState) (held next : PairMap) (found : Event) (limits : RunLimits) → limits.pairs ≡ most → held.most ≡ most → IsNext old new
     → IfSome after (λ left. NextIs (old.pending ++ left) old new new_after (Ok (Some found))) → Lays held next (event found) false → IsUpTo left most old after held.state → IfSome left (λ input. root_output limits input ≡ full_pairs)
 ends_full None after new_after most old new held next found limits same m step h l u = tt
 ends_full (Some input) after new_after most old new held next found limits same m step h l u =

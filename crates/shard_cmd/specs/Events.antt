@@ -1,6 +1,8 @@
 -- What comes of asking for the next event of a script.
 use Rattle.std.specs.Prelude.{◌≡◌, ◌≢◌, ℕ, ◌+◌, ◌<◌, ◌≤◌, List, [], ◌++◌, length, nat_le, not, ◌&&◌, Bool, true, false, Option, None, Some, Result, Ok, Err}
 use Rattle.std.specs.FinMap.{len, contains_key}
+use Rattle.base_core.specs.Faults as ended
+use Rattle.base_core.specs.Faults.{Ended}
 use Rattle.base_core.specs.PairMaps.{PairMap, laid}
 use Rattle.script_model.specs.Lines as lines
 use Rattle.script_model.specs.Lines.{event_if, first_fault, first_line, first_feed, behind_line, longest_input}
@@ -8,7 +10,7 @@ use Rattle.output_model.specs.Ends.{Output, syntax_at, full_pairs}
 use Rattle.output_model.specs.Root.{root_done}
 use Rattle.trie_model.specs.State.{State, IsPair}
 use Rattle.script_io.specs.declared.event.Event.{Event}
-use Rattle.script_io.specs.LinesStates.{LinesState as Reading}
+use Rattle.script_io.specs.LinesStates.{LinesState}
 use Rattle.script_io.specs.Meanings.{event}
 use Rattle.script_io.specs.declared.event.EventError.{EventError}
 use Rattle.script_io.specs.declared.event.EventError.TheVariants as event_error
@@ -26,13 +28,13 @@ abbrev pub first_event : (before : ℕ) (bytes : List ℕ) → Option lines.Even
 first_event before bytes = event_if (first_fault before bytes) (first_line bytes)
 
 -- the first line of what was left asks for this, and what comes behind it is left
-pub record Asks (bytes : List ℕ) (old new : Reading) (left : Option (List ℕ)) (asked : lines.Event) : Type 0 where
+pub record Asks (bytes : List ℕ) (old new : LinesState) (left : Option (List ℕ)) (asked : lines.Event) : Type 0 where
   pub some : length bytes ≢ 0
   pub asked_is : first_event old.before bytes ≡ Some asked
   pub before : new.before ≡ old.before + length (first_line bytes) + first_feed bytes
   pub behind : (rest : List ℕ) × (left ≡ Some rest) × (new.pending ++ rest ≡ behind_line bytes)
 
-abbrev pub NextIs : (bytes : List ℕ) (old new : Reading) (left : Option (List ℕ)) → Result (Option Event) Stop → Type 0
+abbrev pub NextIs : (bytes : List ℕ) (old new : LinesState) (left : Option (List ℕ)) → Result (Option Event) Stop → Type 0
 NextIs bytes old new left (Ok None) = (bytes ≡ []) × (left ≡ Some [])
 NextIs bytes old new left (Ok (Some asked)) = Asks bytes old new left (event asked)
 NextIs bytes old new left (Err stop.Syntax) = (length bytes ≢ 0) × (first_event old.before bytes ≡ None)
@@ -50,8 +52,15 @@ abbrev pub event_stop : EventError → Stop
 event_stop event_error.Bad = stop.Syntax
 event_stop event_error.NoMemory = stop.NoMemory
 
+-- whose doing it is that there is no next event
+abbrev pub event_ended : {X : Type 0} → Result X Stop → Ended
+event_ended (Ok found) = ended.done
+event_ended (Err stop.Syntax) = ended.refused
+event_ended (Err stop.ReadFault) = ended.failed
+event_ended (Err stop.NoMemory) = ended.short_of_memory
+
 -- one more line was handed out
-pub record IsNext (old new : Reading) : Type 0 where
+pub record IsNext (old new : LinesState) : Type 0 where
   pub lines : new.lines ≡ old.lines + 1
   pub progress : old.before < new.before
   pub bounded : new.before ≤ longest_input

@@ -1,6 +1,6 @@
-ghost use Rattle.std.specs.Prelude.{◌≡◌, ◌+◌, ◌≤◌, ◌++◌, Err, IfOk, IfSome};
-ghost use Rattle.base_core.specs.Faults.{Rose};
-ghost use Rattle.shard_cmd.specs.Events.{NextIs, IsNext, SetsPair, line_stop, event_stop};
+ghost use Rattle.std.specs.Prelude.{◌≡◌, ◌+◌, ◌++◌, IfOk, IfSome};
+ghost use Rattle.base_core.specs.Faults.{faults_after};
+ghost use Rattle.shard_cmd.specs.Events.{NextIs, IsNext, SetsPair, line_stop, event_stop, event_ended};
 ghost use Rattle.script_io.specs.Meanings.{event};
 
 use script_io::{Event, EventError, LineError, Lines, Source, read_event};
@@ -50,8 +50,7 @@ pub fn next_event<S: Source>(
     ensures within { IfOk result (λ found. IfSome found (λ asked. SetsPair (event asked))) }
     ensures number { lines.new.number ≡ lines.old.lines + 1 }
     ensures more { IfOk result (λ found. IfSome found (λ _. IsNext lines.old lines.new)) }
-    ensures no_fall { S.faults source.old ≤ S.faults source.new }
-    ensures rose { result ≡ Err Stop.ReadFault → Rose (S.faults source.old) (S.faults source.new) }
+    ensures counted { S.faults source.new ≡ faults_after (event_ended result) (S.faults source.old) }
 {
     match lines.next(source) {
         Ok(Some(line)) => match read_event(alloc, line) {

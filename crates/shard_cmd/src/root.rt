@@ -1,10 +1,10 @@
-ghost use Rattle.std.specs.Prelude.{◌≡◌, ◌≤◌, [], false, Some, Ok, IfOk, IfErr, IfSome, OnErr, ◌⊎◌};
+ghost use Rattle.std.specs.Prelude.{◌≡◌, [], false, Some, Ok, IfOk, IfErr, IfSome, OnErr};
 ghost use Rattle.std.specs.FinMap.{empty};
 ghost use Rattle.base_core.specs.Bounds.{AreLimits};
-ghost use Rattle.base_core.specs.Faults.{Rose};
+ghost use Rattle.base_core.specs.Faults.{faults_after};
 ghost use Rattle.output_model.specs.Ends.{RunLimits};
 ghost use Rattle.output_model.specs.Root.{root_output};
-ghost use Rattle.shard_cmd.specs.Ends.{run_limits, IsAnswer};
+ghost use Rattle.shard_cmd.specs.Ends.{run_limits, IsAnswer, IsFailure, reading_ended};
 ghost use Rattle.shard_cmd.specs.Events.{end_output, stopped_at, SetsPair, has_room, Lays};
 ghost use Rattle.script_io.specs.Meanings.{event};
 ghost use Rattle.shard_cmd.specs.Replies.{IsReply};
@@ -38,8 +38,8 @@ pub fn answer_root<S: Source>(
     ensures reply { IfSome (S.left source.old) (λ input. IfOk result (IsReply (root_output (run_limits limits.now) input))) }
     ensures nothing_left { IfOk result (λ reply. reply.status ≡ Status.Done → IfSome (S.left source.old) (λ _. S.left source.new ≡ Some [])) }
     ensures known { IfOk result (λ reply. IsAnswer reply.status) }
-    ensures no_fall { S.faults source.old ≤ S.faults source.new }
-    ensures failed { IfErr result (λ status. (status ≡ Status.NoMemory) ⊎ ((status ≡ Status.ReadFault) × Rose (S.faults source.old) (S.faults source.new))) }
+    ensures failed { IfErr result IsFailure }
+    ensures counted { S.faults source.new ≡ faults_after (reading_ended result) (S.faults source.old) }
 {
     let mut pairs = Pairs::new(alloc, limits.pairs);
     match read_pairs(alloc, source, &mut pairs) {
@@ -74,8 +74,8 @@ pub fn read_pairs<S: Source>(
     ensures end { (limits : RunLimits) → limits.pairs ≡ pairs.old.most →
         IfSome (S.left source.old) (λ input. IfOk result (λ end. root_output limits input ≡ end_output end pairs.new.state)) }
     ensures nothing_left { IfOk result (λ end. end ≡ End.Whole → IfSome (S.left source.old) (λ _. S.left source.new ≡ Some [])) }
-    ensures no_fall { S.faults source.old ≤ S.faults source.new }
-    ensures failed { IfErr result (λ status. (status ≡ Status.NoMemory) ⊎ ((status ≡ Status.ReadFault) × Rose (S.faults source.old) (S.faults source.new))) }
+    ensures failed { IfErr result IsFailure }
+    ensures counted { S.faults source.new ≡ faults_after (reading_ended result) (S.faults source.old) }
 {
     let mut lines = Lines::new(alloc);
     loop {

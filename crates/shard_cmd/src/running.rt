@@ -1,11 +1,11 @@
-ghost use Rattle.std.specs.Prelude.{◌≡◌, ◌≢◌, ◌≤◌, ◌⊎◌, [], Some, None, IfSome};
+ghost use Rattle.std.specs.Prelude.{◌≡◌, ◌≢◌, ◌≤◌, [], Some, None, IfSome};
 ghost use Rattle.base_core.specs.Bounds.{AreLimits};
-ghost use Rattle.base_core.specs.Faults.{Rose};
+ghost use Rattle.base_core.specs.Faults.{Rose, faults_after};
 ghost use Rattle.script_model.specs.Words.{command_of};
 ghost use Rattle.output_model.specs.Ends.{Output, bad_command};
 ghost use Rattle.output_model.specs.Root.{root_output};
 ghost use Rattle.output_model.specs.Output.{output_of};
-ghost use Rattle.shard_cmd.specs.Ends.{run_limits, ending_of, EndsAs, HasEnding, IsUsageUnlessFailed};
+ghost use Rattle.shard_cmd.specs.Ends.{run_limits, ending_of, EndsAs, HasEnding, FinishesAs, IsUsageUnlessFailed, source_ended, sink_ended};
 
 use crate::root::answer_root;
 use crate::status::Status;
@@ -39,7 +39,9 @@ pub fn run<S: Source, K: Sink>(
     ensures no_command { command_of words.now ≡ None → IsUsageUnlessFailed result }
     ensures unread { command_of words.now ≡ None → source.new ≡ source.old }
 
-    // A fault of the outside has a cause.
+    // A fault of the outside has a cause, and is told where it came.
+    ensures source_faults { S.faults source.new ≡ faults_after (source_ended result) (S.faults source.old) }
+    ensures sink_faults { K.faults sink.new ≡ faults_after (sink_ended result) (K.faults sink.old) }
     ensures source_counts { S.faults source.old ≤ S.faults source.new }
     ensures sink_counts { K.faults sink.old ≤ K.faults sink.new }
     ensures read_fault { result ≡ Status.ReadFault → Rose (S.faults source.old) (S.faults source.new) }
@@ -65,10 +67,8 @@ fn run_root<S: Source, K: Sink>(
     ensures status { IfSome (S.left source.old) (λ input. HasEnding (root_output (run_limits limits.now) input) (ending_of result)) }
     ensures nothing_left { result ≡ Status.Done → IfSome (S.left source.old) (λ _. S.left source.new ≡ Some []) }
     ensures no_usage { result ≢ Status.Usage }
-    ensures source_counts { S.faults source.old ≤ S.faults source.new }
-    ensures sink_counts { K.faults sink.old ≤ K.faults sink.new }
-    ensures read_fault { result ≡ Status.ReadFault → Rose (S.faults source.old) (S.faults source.new) }
-    ensures write_fault { result ≡ Status.WriteFault → Rose (K.faults sink.old) (K.faults sink.new) }
+    ensures source_faults { S.faults source.new ≡ faults_after (source_ended result) (S.faults source.old) }
+    ensures sink_faults { K.faults sink.new ≡ faults_after (sink_ended result) (K.faults sink.old) }
 {
     match answer_root(alloc, source, limits) {
         Ok(reply) => finish(sink, reply.bytes.as_slice(), reply.status),
@@ -80,8 +80,7 @@ fn run_root<S: Source, K: Sink>(
 fn finish<K: Sink>(sink: &mut K, bytes: &[u8], status: Status) -> Status
     ensures output { (output : Output) → bytes.now ≡ output.bytes → ending_of status ≡ Some output.ending →
         IfSome (K.written sink.old) (λ before. EndsAs output (ending_of result) before (K.written sink.new)) }
-    ensures status { (result ≡ status) ⊎ ((result ≡ Status.WriteFault) × Rose (K.faults sink.old) (K.faults sink.new)) }
-    ensures sink_counts { K.faults sink.old ≤ K.faults sink.new }
+    ensures status { FinishesAs status result (K.faults sink.old) (K.faults sink.new) }
 {
     match put(sink, bytes) {
         Ok(()) => status,

@@ -1,5 +1,5 @@
 use Rattle.shard_cmd.proofs.Scripts.{SetsPair-event_of}
-use Rattle.shard_cmd.proofs.Stops.{stops_at_line, stops_at_event, fault_of_line, event_is_no_fault}
+use Rattle.shard_cmd.proofs.Stops.{stops_at_line}
 use Rattle.shard_cmd.proofs.events.next_event.Goals as goal
 
 pub returns-in-Err-clause-next : goal.returns-in-Err-clause-next

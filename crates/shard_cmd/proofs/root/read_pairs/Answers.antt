@@ -1,4 +1,4 @@
-use Rattle.std.proofs.Common.{refl, ◌∙◌, arith}
+use Rattle.std.proofs.Common.{refl, ◌∙◌}
 use Rattle.shard_cmd.proofs.Scripts.{IsUpTo-begin, IsUpTo-laid, ends_whole, ends_stopped, ends_full, nothing_left}
 use Rattle.shard_cmd.proofs.root.read_pairs.Goals as goal
 
@@ -6,7 +6,7 @@ pub loop-lines-init : goal.loop-lines-init
 loop-lines-init g c = record {
   up_to = IsUpTo-begin (g.S.Source.left c.args.source.now) _ _ _ c.new-lines.ensures c.requires;
   most = refl;
-  no_fall = omega arith;
+  faults = refl;
 }
 
 pub returns-in-Ok-None-clause-end : goal.returns-in-Ok-None-clause-end
@@ -24,7 +24,7 @@ loop-lines-preserved g c = record {
   up_to = IsUpTo-laid (g.S.Source.left c.args.source.now) (g.S.Source.left c.loop-lines.source) (g.S.Source.left c.next_event.new.source) _ c.loop-lines.lines c.next_event.new.lines c.loop-lines.pairs c.lay.new.pairs c.in-Ok-Some.event
       c.loop-lines.invariant.most (rw c.in-Ok-Some.field-0-is at c.in-Ok-Some.ensures.more) (rw c.in-Ok-Some.field-0-is at c.in-Ok-Some.ensures.next) (rw c.in-Ok-true.field-0-test at c.in-Ok-true.ensures.lays) c.loop-lines.invariant.up_to;
   most = c.lay.ensures.most ∙ c.loop-lines.invariant.most;
-  no_fall = omega (arith, c.loop-lines.invariant.no_fall, c.next_event.ensures.no_fall);
+  faults = c.in-Ok-Some.ensures.counted ∙ c.loop-lines.invariant.faults;
 }
 
 pub returns-in-Ok-false-clause-end : goal.returns-in-Ok-false-clause-end

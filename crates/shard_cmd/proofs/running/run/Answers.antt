@@ -26,4 +26,4 @@ returns-in-Err-Bad-clause-output g c =
 pub returns-in-Err-Bad-clause-status : goal.returns-in-Err-Bad-clause-status
 returns-in-Err-Bad-clause-status g c =
     by_command (λ output. HasEnding output (ending_of c.finish.result)) (run_limits c.args.limits.now) c.args.words.now (g.S.Source.left c.args.source.now) None
-    (c.in-Err-Bad.ensures.bad (ap Err c.in-Err-Bad.field-0-is)) (told (g.S.Source.left c.args.source.now) (has_ending bad_command Usage c.finish.result refl c.finish.ensures.status))
+    (c.in-Err-Bad.ensures.bad (ap Err c.in-Err-Bad.field-0-is)) (told (g.S.Source.left c.args.source.now) (has_ending bad_command Usage c.finish.result _ _ refl c.finish.ensures.status))
