@@ -1,2 +1,3 @@
+pub mod ByteMaps
 pub mod Faults
 pub mod PairMaps

@@ -8,7 +8,7 @@ use Rattle.std.proofs.lemmas.Bool.{eq-eqb, ne_eqb, ltb-true}
 use Rattle.text_store.specs.declared.held.Held.{Held}
 use Rattle.text_store.specs.StoreStates.{texts_of, counts_of, IsKept}
 use Rattle.text_store.specs.Counting.{IsUnchanged, SetsCount, Adds, Releases}
-use Rattle.text_store.proofs.Keyed.{get-inserted, get-inserted_elsewhere, get-removed, get-removed_elsewhere, insert-again, remove-absent}
+use Rattle.base_core.proofs.ByteMaps.{get-inserted, get-inserted_elsewhere, get-removed, get-removed_elsewhere, insert-again, remove-absent}
 use Rattle.text_store.proofs.Tables.{Entries, found, get-seen, seen-same, seen-put, seen-taken}
 
 -- the count of each digest

@@ -1,5 +1,4 @@
 pub mod Walked
-pub mod Keyed
 pub mod Stored
 pub mod Tables
 pub mod StoreStates

@@ -7,7 +7,7 @@ use Rattle.sha2.specs.Sha256.{sha256}
 use Rattle.trie_model.specs.Root.{Table, zero_digest}
 use Rattle.text_store.specs.Loading.{IsNamed}
 use Rattle.text_store.specs.Counting.{IsStored, IsUnchanged, Adds, Releases}
-use Rattle.text_store.proofs.Keyed.{same_or_other, get-inserted, get-inserted_elsewhere, get-removed, get-removed_elsewhere}
+use Rattle.base_core.proofs.ByteMaps.{same_or_other, get-inserted, get-inserted_elsewhere, get-removed, get-removed_elsewhere}
 
 pub stored-unchanged : (texts after : Table) (count_of count_after : List ℕ → ℕ) → IsStored texts count_of → IsUnchanged texts after count_of count_after → IsStored after count_after
 stored-unchanged texts after count_of count_after s u =

@@ -10,7 +10,7 @@ use Rattle.std.specs.Cmp.Lexicographic.{pointwise, texts_ties, nat_list_cmp_tota
 use Rattle.std.specs.FinMap.{FinMap, get, find, from_entries, insert, remove, len, contains_key, same_map, get-from_entries, get-insert, get-remove, len-empty, len-insert}
 use Rattle.base_core.specs.declared.hash.Digest.{Digest}
 use Rattle.text_store.specs.declared.held.Held.{Held}
-use Rattle.text_store.proofs.Keyed.{order, is_same}
+use Rattle.base_core.proofs.ByteMaps.{order, is_same}
 
 abbrev pub Entries : Type 0
 Entries = List (Digest × Held)

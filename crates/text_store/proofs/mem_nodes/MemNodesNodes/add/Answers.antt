@@ -1,6 +1,6 @@
 use Rattle.std.proofs.Common.{◌≢◌, ◌≤◌, cond, IfNone, ◌+◌, ◌<◌, ◌^◌, Some, is_some, refl, sym, subst, ap, ◌∙◌, arith}
 use Rattle.std.specs.FinMap.{get}
-use Rattle.text_store.proofs.Keyed.{apart_by_eq, apart_by_ne, same_by_ne}
+use Rattle.base_core.proofs.ByteMaps.{apart_by_eq, apart_by_ne, same_by_ne}
 use Rattle.text_store.specs.Counting.{Adds}
 use Rattle.text_store.specs.StoreStates.{count_in}
 use Rattle.text_store.proofs.Stored.{stored-unchanged, stored-adds}

@@ -1,4 +1,4 @@
--- Maps by digest, at the digest that a change names and at every other.
+-- Maps by byte strings, such as digests and keys, at the one that a change names and at every other.
 use Rattle.std.proofs.Common.{Ordering, ◌≡◌, ◌≢◌, Bool, true, false, cond, List, ℕ, None, Some, ◌⊎◌, inl, inr, ⊎_elim, refl, sym, ap, ◌∙◌}
 use Rattle.std.specs.Ordering.{nat_cmp, eq_by_cmp}
 use Rattle.std.specs.Cmp.Lexicographic.{slice_cmp, nat_list_cmp_total, texts_ties, bytes_decides, pointwise}
@@ -19,7 +19,7 @@ is_same-itself q = sym (texts_ties q q) ∙ (bytes_decides q q).1 refl
 pub same_from : (q d : List ℕ) → is_same q d ≡ true → q ≡ d
 same_from q d e = (bytes_decides q d).0 (texts_ties q d ∙ e)
 
--- two digests are one, or they are told apart
+-- two of them are one, or they are told apart
 pub same_or_other : (q d : List ℕ) → (q ≡ d) ⊎ ((q ≢ d) × (is_same q d ≡ false))
 same_or_other q d = by_test (is_same q d) refl
   where
