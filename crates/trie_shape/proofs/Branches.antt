@@ -8,22 +8,21 @@ use Rattle.std.proofs.Common.{get_or-set_other, get_or-set_same}
 use Rattle.base_core.specs.declared.hash.Digest.{Digest}
 use Rattle.byte_model.specs.Below.{sum_below}
 use Rattle.byte_model.specs.Nibbles.{nibbles}
-use Rattle.byte_model.specs.Node as node
-use Rattle.byte_model.specs.Node.{IsShaped, own_cost, ValueRef as ValueOfRecord}
+use Rattle.byte_model.specs.Node.{ValueRef as ValueOfRecord}
 use Rattle.byte_model.proofs.Below.{sum_below-more}
 use Rattle.trie_model.specs.State.{Row}
-use Rattle.trie_model.specs.Tree.{Tree, branch, below, ends_here, tree_of}
-use Rattle.trie_model.specs.Texts.{text, usage, top_cost, value_ref, name_of}
+use Rattle.trie_model.specs.Tree.{below, ends_here, tree_of}
+use Rattle.trie_model.specs.Texts.{text, usage, value_ref, name_of}
 use Rattle.trie_model.proofs.Order.{RisingRows, rising-below}
 use Rattle.trie_model.proofs.Pairs.{Small}
 use Rattle.trie_model.proofs.Shapes.{ShortValues}
 use Rattle.node_codec.specs.Meanings.{children_in}
 use Rattle.trie_shape.specs.Runs.{StartsFrom, AllFrom, run_of, tails, prefix_of, DoFork}
 use Rattle.trie_shape.specs.RowsAt.{Lent, row_at, rows_at, IsRowAt, AreRowsAt, IsLeft}
-use Rattle.trie_shape.specs.Shows.{IsName, child_of, AreChildren}
+use Rattle.trie_shape.specs.Shows.{IsName, child_of, IsBranchOf}
 use Rattle.trie_shape.proofs.Runs.{after-run, below-run, below-after, rising-drop}
-use Rattle.trie_shape.proofs.Kept.{HasShortPath, AreKept, tree-forks, shaped-forks}
-use Rattle.trie_shape.proofs.Shows.{branch_cost}
+use Rattle.trie_shape.proofs.Kept.{HasShortPath, AreKept}
+use Rattle.trie_shape.proofs.Shows.{usage-forks}
 
 -- ---- rows and their parts, as pairs have them
 
@@ -153,13 +152,6 @@ gathered-more depth whole rest x kids kids_usage so_far name used small is =
 pub length-rows_at : (depth : ℕ) (rows : List Lent) → length (rows_at depth rows) ≡ length rows
 length-rows_at depth rows = length-map rows (row_at depth)
 
-usage-branch : (value : Option (List ℕ)) (kids : ℕ → Tree) → usage (branch value kids) ≡ top_cost (branch value kids) + sum_below (λ x. usage (kids x)) 16
-unfolding usage
-usage-branch value kids = refl
-
-usage-forks : (rows : List Row) → DoFork rows → usage (tree_of rows) ≡ top_cost (branch (ends_here rows) (child_of rows)) + sum_below (used_at rows) 16
-usage-forks rows fork = ap usage (tree-forks rows fork) ∙ usage-branch _ _
-
 -- the usages of the children so far, and of the next, fit
 usage-so_far : (rows : List Row) (x : ℕ) → DoFork rows → x < 16 → usage (tree_of rows) < 2 ^ 64 → sum_below (used_at rows) x + used_at rows x < 2 ^ 64
 usage-so_far rows x fork small fits =
@@ -224,21 +216,12 @@ module _ (depth : ℕ) (whole rest : List Lent) (x : ℕ) (kids : List (Option D
 -- ---- after the last turn
 
 module _ (depth : ℕ) (whole rest : List Lent) (x : ℕ) (kids : List (Option Digest)) (kids_usage : ℕ) (done : x ≡ 16) (all : IsGathered depth whole rest x kids kids_usage) (fork : DoFork (rows_at depth whole)) where
-  pub end-children : AreChildren (children_in kids) kids_usage (child_of (rows_at depth whole))
-  end-children = record {
-    named = λ y h. all.named y (omega arith);
-    together = all.used ∙ ap (sum_below (used_at (rows_at depth whole))) done;
+  pub end-branch : (value : Option ValueOfRecord) → value ≡ option_map value_ref (ends_here (rows_at depth whole)) → IsBranchOf (rows_at depth whole) value (children_in kids) kids_usage
+  end-branch value ends = record {
+    fork = fork;
+    ends = ends;
+    children = record { named = λ y h. all.named y (omega arith); together = all.used ∙ ap (sum_below (used_at (rows_at depth whole))) done };
   }
-
-  pub end-shaped : AreRowsAt depth whole → (value : Option ValueOfRecord) → value ≡ option_map value_ref (ends_here (rows_at depth whole)) → IsShaped (node.branch value (children_in kids))
-  end-shaped are value e = shaped-forks (rows_at depth whole) (kept-rows_at depth whole are) fork value (children_in kids) e end-children.named
-
-  pub end-fits : (value : Option ValueOfRecord) → value ≡ option_map value_ref (ends_here (rows_at depth whole)) → usage (tree_of (rows_at depth whole)) < 2 ^ 64 → own_cost (node.branch value (children_in kids)) + kids_usage < 2 ^ 64
-  end-fits value e fits =
-      let cost = ap (λ (r : Option ValueOfRecord). own_cost (node.branch r (children_in kids))) e ∙ branch_cost (ends_here (rows_at depth whole)) (children_in kids) (child_of (rows_at depth whole)) in
-      let sum = usage-forks (rows_at depth whole) fork in
-      let used = end-children.together in
-      omega arith
 
 -- several rows whose paths share nothing
 pub forks : (depth : ℕ) (rows : List Lent) → prefix_of (rows_at depth rows) ≡ [] → 2 ≤ length rows → DoFork (rows_at depth rows)

@@ -1,5 +1,5 @@
 -- Rows that keep to what a state's rows keep to, and what may be written of their trie's top.
-use Rattle.std.proofs.Common.{◌≡◌, ◌≢◌, ℕ, ◌<◌, ◌≤◌, List, [], ◌∷◌, length, Option, None, Some, IfSome, is_some, option_map, if◌then◌else◌, refl, sym, ◌∙◌, ap, subst, arith}
+use Rattle.std.proofs.Common.{◌≡◌, ◌≢◌, ℕ, ◌≤◌, List, [], ◌∷◌, length, Option, None, Some, IfSome, is_some, option_map, if◌then◌else◌, refl, sym, ◌∙◌, ap, subst, arith}
 use Rattle.std.specs.Prelude.{⊤}
 use Rattle.std.specs.List.{AllByRecursion}
 use Rattle.std.specs.FinMap.{entries}
@@ -22,6 +22,7 @@ use Rattle.trie_model.proofs.Shapes.{ShortValues, short-below, short-rows_of, so
 use Rattle.trie_model.proofs.Trees.{length-rest_behind, tree_of-nil, tree_of-one, tree_of-forks, tree_of-shares}
 use Rattle.trie_model.proofs.Worked.{Pair, rows_of_pairs}
 use Rattle.trie_shape.specs.Runs.{DoFork}
+use Rattle.trie_shape.specs.Shows.{child_of, IsBranchOf}
 
 abbrev pub HasShortPath : Row → Type 0
 HasShortPath row = length row.0 ≤ longest_path
@@ -98,7 +99,7 @@ sound-tree_of rows h = sound_top (tree_of rows) (sound_nodes rows h.rise h.nibbl
 
 -- ---- the branch of rows that fork
 
-pub tree-forks : (rows : List Row) → DoFork rows → tree_of rows ≡ branch (ends_here rows) (λ x. tree_of (below (x ∷ []) rows))
+pub tree-forks : (rows : List Row) → DoFork rows → tree_of rows ≡ branch (ends_here rows) (child_of rows)
 tree-forks [] fork = absurd (let two = fork.several in omega arith)
 tree-forks (row ∷ []) fork = absurd (let two = fork.several in omega arith)
 tree-forks (row ∷ next ∷ rows) fork = tree_of-forks row next rows fork.apart
@@ -108,12 +109,10 @@ shaped-agree : (value : Option ValueOfRecord) (kids others : ℕ → Option (Lis
 shaped-agree None kids others same h = omega arith
 shaped-agree (Some value) kids others same h = (h.0, let one = h.1 in omega arith)
 
-pub shaped-forks : (rows : List Row) → AreKept rows → DoFork rows → (value : Option ValueOfRecord) (kids : ℕ → Option (List ℕ)) → value ≡ option_map value_ref (ends_here rows)
-    → ((x : ℕ) → x < 16 → kids x ≡ name_of (tree_of (below (x ∷ []) rows)) (text (tree_of (below (x ∷ []) rows)))) → IsShaped (node.branch value kids)
+pub shaped-forks : (rows : List Row) → AreKept rows → (value : Option ValueOfRecord) (kids : ℕ → Option (List ℕ)) (used : ℕ) → IsBranchOf rows value kids used → IsShaped (node.branch value kids)
 unfolding node_of
-shaped-forks rows kept fork value kids ends named =
-    let trees = λ (x : ℕ). tree_of (below (x ∷ []) rows) in
-    let others = λ (x : ℕ). name_of (trees x) (text (trees x)) in
-    let fits = subst HasNode (tree-forks rows fork) (sound_nodes rows kept.rise kept.nibbles kept.values) in
-    let count = sum_below-agree (λ x. if is_some (kids x) then 1 else 0) (λ x. if is_some (others x) then 1 else 0) 16 (λ x h. ap (λ (child : Option (List ℕ)). if is_some child then 1 else 0) (named x h)) in
-    subst (λ (v : Option ValueOfRecord). IsShaped (node.branch v kids)) (sym ends) (shaped-agree (option_map value_ref (ends_here rows)) kids others count fits.0)
+shaped-forks rows kept value kids used is =
+    let others = λ (x : ℕ). name_of (child_of rows x) (text (child_of rows x)) in
+    let fits = subst HasNode (tree-forks rows is.fork) (sound_nodes rows kept.rise kept.nibbles kept.values) in
+    let count = sum_below-agree (λ x. if is_some (kids x) then 1 else 0) (λ x. if is_some (others x) then 1 else 0) 16 (λ x h. ap (λ (child : Option (List ℕ)). if is_some child then 1 else 0) (is.children.named x h)) in
+    subst (λ (v : Option ValueOfRecord). IsShaped (node.branch v kids)) (sym is.ends) (shaped-agree (option_map value_ref (ends_here rows)) kids others count fits.0)

@@ -1,6 +1,7 @@
 -- What subtrees show.
 use Rattle.std.proofs.Common.{◌≡◌, ℕ, ◌+◌, List, [], ◌∷◌, ◌++◌, ◌^◌, ◌<◌, ◌≤◌, Option, None, Some, Result, Ok, is_some, option_map, if◌then◌else◌, IfSome, IfNone, IsSome, refl, sym, ap, ap₂, subst, ◌∙◌, arith}
 use Rattle.sha2.specs.Sha256.{sha256}
+use Rattle.byte_model.specs.Below.{sum_below}
 use Rattle.byte_model.specs.Borsh.{borsh_u16, borsh_u64}
 use Rattle.byte_model.specs.Node as node
 use Rattle.byte_model.specs.Node.{Node, IsShaped, longest_value, spelled_children, spelled_value, child_bit, child_digest, spelled, own_cost, ValueRef as ValueOfRecord}
@@ -17,7 +18,7 @@ use Rattle.trie_shape.specs.declared.close_error.CloseError.{CloseError}
 use Rattle.trie_shape.specs.declared.closed.Closed.{Closed}
 use Rattle.trie_shape.specs.declared.sub.Sub.{Sub}
 use Rattle.trie_shape.specs.declared.sub.Sub.TheVariants.{Empty, Leaf, Branch, Extension}
-use Rattle.trie_shape.specs.Shows.{Shows, MayClose, under_of, top_node, usage_of, digest_of, IsRecord, IsTop, IsName, child_of, AreChildren}
+use Rattle.trie_shape.specs.Shows.{Shows, MayClose, under_of, top_node, usage_of, digest_of, IsRecord, IsTop, IsName, child_of, AreChildren, IsBranchOf}
 use Rattle.trie_shape.specs.Runs.{DoFork}
 use Rattle.trie_shape.proofs.Kept.{IsSound, tree-forks}
 
@@ -165,7 +166,7 @@ unfolding spelled
 spelled-branch None kids others used same = ap (λ (bytes : List ℕ). 1 ∷ bytes ++ borsh_u64 used) (spelled_children-agree kids others same)
 spelled-branch (Some value) kids others used same = ap (λ (bytes : List ℕ). 2 ∷ spelled_value value ++ bytes ++ borsh_u64 used) (spelled_children-agree kids others same)
 
-pub branch_cost : (v : Option (List ℕ)) (kids : ℕ → Option (List ℕ)) (trees : ℕ → Tree) → own_cost (node.branch (option_map value_ref v) kids) ≡ top_cost (branch v trees)
+branch_cost : (v : Option (List ℕ)) (kids : ℕ → Option (List ℕ)) (trees : ℕ → Tree) → own_cost (node.branch (option_map value_ref v) kids) ≡ top_cost (branch v trees)
 unfolding own_cost top_cost
 branch_cost None kids trees = refl
 branch_cost (Some v) kids trees = refl
@@ -183,9 +184,26 @@ branch_top closed value kids kids_usage written v trees names children =
     }
 
 pub rows_top : (closed : Closed) (value : Option ValueOfRecord) (kids : ℕ → Option (List ℕ)) (kids_usage : ℕ) → IsRecord closed (node.branch value kids) (own_cost (node.branch value kids) + kids_usage)
-    → (rows : List Row) → DoFork rows → value ≡ option_map value_ref (ends_here rows) → AreChildren kids kids_usage (child_of rows) → IsTop closed (tree_of rows)
-rows_top closed value kids kids_usage written rows fork ends children = subst (IsTop closed) (sym (tree-forks rows fork)) (branch_top closed value kids kids_usage written (ends_here rows) (child_of rows) ends children)
+    → (rows : List Row) → IsBranchOf rows value kids kids_usage → IsTop closed (tree_of rows)
+rows_top closed value kids kids_usage written rows is = subst (IsTop closed) (sym (tree-forks rows is.fork)) (branch_top closed value kids kids_usage written (ends_here rows) (child_of rows) is.ends is.children)
+
+usage-branch : (value : Option (List ℕ)) (kids : ℕ → Tree) → usage (branch value kids) ≡ top_cost (branch value kids) + sum_below (λ x. usage (kids x)) 16
+unfolding usage
+usage-branch value kids = refl
+
+pub usage-forks : (rows : List Row) → DoFork rows → usage (tree_of rows) ≡ top_cost (branch (ends_here rows) (child_of rows)) + sum_below (λ x. usage (child_of rows x)) 16
+usage-forks rows fork = ap usage (tree-forks rows fork) ∙ usage-branch (ends_here rows) (child_of rows)
+
+pub branch-uses : (rows : List Row) (value : Option ValueOfRecord) (kids : ℕ → Option (List ℕ)) (used : ℕ) → IsBranchOf rows value kids used → own_cost (node.branch value kids) + used ≡ usage (tree_of rows)
+branch-uses rows value kids used is =
+    ap₂ (λ (a b : ℕ). a + b) (ap (λ (r : Option ValueOfRecord). own_cost (node.branch r kids)) is.ends ∙ branch_cost (ends_here rows) kids (child_of rows)) is.children.together
+    ∙ sym (usage-forks rows is.fork)
 
 -- a branch whose record is written
 pub branch-shown : (closed : Closed) (v : Option (List ℕ)) (trees : ℕ → Tree) → IsTop closed (branch v trees) → Shows (Branch closed.digest closed.usage) (branch v trees)
 branch-shown closed v trees top = (top.digest ∙ ap sha256 top.text, top.usage)
+
+pub rows-shown : (closed : Closed) (rows : List Row) → DoFork rows → IsTop closed (tree_of rows) → Shows (Branch closed.digest closed.usage) (tree_of rows)
+rows-shown closed rows fork top =
+    let forks = tree-forks rows fork in
+    subst (Shows (Branch closed.digest closed.usage)) (sym forks) (branch-shown closed (ends_here rows) (child_of rows) (subst (IsTop closed) forks top))

@@ -7,8 +7,8 @@ use Rattle.byte_model.specs.Node as node
 use Rattle.byte_model.specs.Node.{IsShaped, ValueRef as ValueOfRecord}
 use Rattle.byte_model.proofs.Digits.{length-nibbles, AreNibbles-nibbles}
 use Rattle.trie_model.specs.State.{State, Row, rows_of, IsPair, IsState}
-use Rattle.trie_model.specs.Tree.{Tree, nothing, leaf, branch, extension, below, ends_here, tree_of}
-use Rattle.trie_model.specs.Texts.{usage, text, name_of, value_ref}
+use Rattle.trie_model.specs.Tree.{Tree, nothing, leaf, branch, extension, below, tree_of}
+use Rattle.trie_model.specs.Texts.{usage, text, name_of}
 use Rattle.trie_model.specs.Root.{zero_digest, root_of, root, total, subtree_at}
 use Rattle.trie_model.proofs.Bounds.{usage-lt}
 use Rattle.trie_model.proofs.Costs.{subtree_at-root}
@@ -17,8 +17,7 @@ use Rattle.base_core.specs.declared.hash.Digest.{Digest}
 use Rattle.base_core.specs.PairMaps.{PairMap, IsPairMap}
 use Rattle.trie_shape.specs.declared.sub.Sub.{Sub}
 use Rattle.trie_shape.specs.RowsAt.{Lent, rows_at, IsRowAt, AreRowsAt}
-use Rattle.trie_shape.specs.Runs.{DoFork}
-use Rattle.trie_shape.specs.Shows.{Shows, MayClose, IsName, child_of}
+use Rattle.trie_shape.specs.Shows.{Shows, MayClose, IsName, IsBranchOf}
 use Rattle.trie_shape.proofs.Kept.{kept-below, kept-rows_of, sound-tree_of, shaped-forks}
 use Rattle.trie_shape.proofs.Shows.{may_close}
 
@@ -87,6 +86,5 @@ pub place-may_close : (state : State) → IsState state → (place : List ℕ) (
 unfolding subtree_at
 place-may_close state is place sub h = may_close sub (tree_of (below place (rows_of state))) h (sound-tree_of (below place (rows_of state)) (kept-below place (rows_of state) (kept-rows_of state is)))
 
-pub place-shaped : (state : State) → IsState state → (place : List ℕ) → DoFork (below place (rows_of state)) → (value : Option ValueOfRecord) (kids : ℕ → Option (List ℕ)) → value ≡ option_map value_ref (ends_here (below place (rows_of state)))
-    → ((x : ℕ) → x < 16 → kids x ≡ name_of (child_of (below place (rows_of state)) x) (text (child_of (below place (rows_of state)) x))) → IsShaped (node.branch value kids)
-place-shaped state is place fork = shaped-forks (below place (rows_of state)) (kept-below place (rows_of state) (kept-rows_of state is)) fork
+pub place-shaped : (state : State) → IsState state → (place : List ℕ) (value : Option ValueOfRecord) (kids : ℕ → Option (List ℕ)) (used : ℕ) → IsBranchOf (below place (rows_of state)) value kids used → IsShaped (node.branch value kids)
+place-shaped state is place = shaped-forks (below place (rows_of state)) (kept-below place (rows_of state) (kept-rows_of state is))

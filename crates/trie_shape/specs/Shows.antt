@@ -6,9 +6,9 @@ use Rattle.byte_model.specs.Below.{sum_below}
 use Rattle.byte_model.specs.Nibbles.{AreNibbles}
 use Rattle.byte_model.specs.PackedPath.{longest_path}
 use Rattle.byte_model.specs.Node as node
-use Rattle.byte_model.specs.Node.{Node, IsShaped, spelled, own_cost}
+use Rattle.byte_model.specs.Node.{Node, IsShaped, spelled, own_cost, ValueRef as ValueOfRecord}
 use Rattle.trie_model.specs.State.{Row}
-use Rattle.trie_model.specs.Tree.{Tree, nothing, leaf, branch, extension, below, tree_of}
+use Rattle.trie_model.specs.Tree.{Tree, nothing, leaf, branch, extension, below, ends_here, tree_of}
 use Rattle.trie_model.specs.Texts as texts
 use Rattle.trie_model.specs.Texts.{text, usage, value_ref, name_of}
 use Rattle.node_codec.specs.Meanings.{value_of}
@@ -16,6 +16,7 @@ use Rattle.base_core.specs.declared.hash.Digest.{Digest}
 use Rattle.trie_shape.specs.declared.closed.Closed.{Closed}
 use Rattle.trie_shape.specs.declared.sub.Sub.{Sub}
 use Rattle.trie_shape.specs.declared.sub.Sub.TheVariants.{Empty, Leaf, Branch, Extension}
+use Rattle.trie_shape.specs.Runs.{DoFork}
 
 -- ---- a subtree by itself
 
@@ -100,3 +101,9 @@ child_of rows x = tree_of (below (x ∷ []) rows)
 pub record AreChildren (kids : ℕ → Option (List ℕ)) (used : ℕ) (trees : ℕ → Tree) : Type 0 where
   pub named : (x : ℕ) → x < 16 → kids x ≡ name_of (trees x) (texts.text (trees x))
   pub together : used ≡ sum_below (λ x. texts.usage (trees x)) 16
+
+-- the value and the children of the branch of rows that fork
+pub record IsBranchOf (rows : List Row) (value : Option ValueOfRecord) (kids : ℕ → Option (List ℕ)) (used : ℕ) : Type 0 where
+  pub fork : DoFork rows
+  pub ends : value ≡ option_map value_ref (ends_here rows)
+  pub children : AreChildren kids used (child_of rows)

@@ -4,7 +4,7 @@ ghost use Rattle.byte_model.specs.PackedPath.{longest_path};
 ghost use Rattle.byte_model.specs.Nibbles.{nibbles, AreNibbles};
 ghost use Rattle.byte_model.specs.Node as node;
 ghost use Rattle.byte_model.specs.Node.{IsShaped, own_cost, longest_value};
-ghost use Rattle.trie_model.specs.Tree as tree;
+ghost use Rattle.trie_model.specs.State.{Row};
 ghost use Rattle.trie_model.specs.Tree.{Tree, tree_of, leaf};
 ghost use Rattle.trie_model.specs.Texts as texts;
 ghost use Rattle.trie_model.specs.Root as state;
@@ -12,7 +12,7 @@ ghost use Rattle.node_codec.specs.Meanings.{value_of, children_in};
 ghost use Rattle.trie_model.specs.Grown.{grown};
 ghost use Rattle.trie_shape.specs.Runs.{DoFork};
 ghost use Rattle.trie_shape.specs.RowsAt.{rows_at, AreRowsAt};
-ghost use Rattle.trie_shape.specs.Shows.{Shows, MayClose, IsName, AreChildren, usage_of};
+ghost use Rattle.trie_shape.specs.Shows.{Shows, MayClose, IsName, IsBranchOf, usage_of};
 
 use crate::close_error::CloseError;
 use crate::closing::close_branch;
@@ -46,7 +46,11 @@ pub fn build(alloc: Global, pairs: &Pairs) -> Result<Built, AllocError>
 
 /// The digest that names the trie of some rows from a depth on, and its usage.
 #[cycle(build)]
-fn named(alloc: Global, rows: &[KeyValue<'_>], depth: u64) -> Result<(Option<Digest>, u64), AllocError>
+fn named(
+    alloc: Global,
+    rows: &[KeyValue<'_>],
+    depth: u64,
+) -> Result<(Option<Digest>, u64), AllocError>
     requires rows { AreRowsAt depth rows.now }
     requires depth { depth ≤ longest_path + 1 }
     requires fits { texts.usage (tree_of (rows_at depth rows.now)) < 2 ^ 64 }
@@ -160,7 +164,7 @@ fn fork_of(
 ) -> Result<Sub, AllocError>
     requires shaped { IsShaped (node.branch (option_map value_of value) (children_in kids.now)) }
     requires fits { own_cost (node.branch (option_map value_of value) (children_in kids.now)) + kids_usage < 2 ^ 64 }
-    ensures { IfOk result (λ sub. (v : Option (List ℕ)) (trees : ℕ → Tree) → option_map value_of value ≡ option_map texts.value_ref v → AreChildren (children_in kids.now) kids_usage trees → Shows sub (tree.branch v trees)) }
+    ensures { IfOk result (λ sub. (rows : List Row) → IsBranchOf rows (option_map value_of value) (children_in kids.now) kids_usage → Shows sub (tree_of rows)) }
 {
     match close_branch(alloc, value, kids, kids_usage) {
         Ok(closed) => Ok(Sub::Branch {

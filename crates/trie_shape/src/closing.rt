@@ -3,14 +3,13 @@ ghost use Rattle.sha2.specs.Sha256.{sha256};
 ghost use Rattle.byte_model.specs.Nibbles.{AreNibbles};
 ghost use Rattle.byte_model.specs.PackedPath.{longest_path};
 ghost use Rattle.byte_model.specs.Node.{leaf, branch, extension, own_cost, IsShaped};
-ghost use Rattle.trie_model.specs.Tree.{Tree, ends_here, tree_of};
+ghost use Rattle.trie_model.specs.Tree.{Tree, tree_of};
 ghost use Rattle.trie_model.specs.Tree as tree;
 ghost use Rattle.trie_model.specs.State.{Row};
 ghost use Rattle.trie_model.specs.Texts.{value_ref};
 ghost use Rattle.node_codec.specs.Meanings.{value_of, children_in};
 ghost use Rattle.trie_shape.specs.declared.close_error.CloseError.TheVariants.{Usage};
-ghost use Rattle.trie_shape.specs.Runs.{DoFork};
-ghost use Rattle.trie_shape.specs.Shows.{IsRecord, IsTop, AreChildren, child_of};
+ghost use Rattle.trie_shape.specs.Shows.{IsRecord, IsTop, AreChildren, IsBranchOf};
 
 use crate::close_error::CloseError;
 use crate::closed::Closed;
@@ -30,7 +29,7 @@ pub fn close_branch(
     ensures usage { (result ≡ Err Usage) ↔ (2 ^ 64 ≤ own_cost (branch (option_map value_of value) (children_in kids.now)) + kids_usage) }
     ensures written { IfOk result (λ closed. IsRecord closed (branch (option_map value_of value) (children_in kids.now)) (own_cost (branch (option_map value_of value) (children_in kids.now)) + kids_usage)) }
     ensures shows { IfOk result (λ closed. (v : Option (List ℕ)) (trees : ℕ → Tree) → option_map value_of value ≡ option_map value_ref v → AreChildren (children_in kids.now) kids_usage trees → IsTop closed (tree.branch v trees)) }
-    ensures rows { IfOk result (λ closed. (rows : List Row) → DoFork rows → option_map value_of value ≡ option_map value_ref (ends_here rows) → AreChildren (children_in kids.now) kids_usage (child_of rows) → IsTop closed (tree_of rows)) }
+    ensures rows { IfOk result (λ closed. (rows : List Row) → IsBranchOf rows (option_map value_of value) (children_in kids.now) kids_usage → IsTop closed (tree_of rows)) }
 {
     match branch_cost(&value).checked_add(kids_usage) {
         None => Err(CloseError::Usage),

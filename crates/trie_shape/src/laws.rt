@@ -1,18 +1,16 @@
 //! Laws over the definitions. A law is proved where its function is: there is nothing to run.
 
-ghost use Rattle.std.specs.Prelude.{◌≡◌, ◌++◌, ◌<◌, ◌↔◌, ℕ, List, Option};
-ghost use Rattle.std.specs.Option.{option_map};
-ghost use Rattle.byte_model.specs.Node as node;
-ghost use Rattle.byte_model.specs.Node.{IsShaped, ValueRef as ValueOfRecord};
-ghost use Rattle.trie_model.specs.State.{State, IsState, rows_of};
-ghost use Rattle.trie_model.specs.Tree.{Tree, below, branch, ends_here};
-ghost use Rattle.trie_model.specs.Texts.{name_of, text, usage, value_ref};
+ghost use Rattle.std.specs.Prelude.{◌≡◌, ◌+◌, ◌++◌, ◌↔◌, ℕ, List, Option};
+ghost use Rattle.byte_model.specs.Node.{IsShaped, branch, own_cost, ValueRef as ValueOfRecord};
+ghost use Rattle.trie_model.specs.State.{State, Row, IsState, rows_of};
+ghost use Rattle.trie_model.specs.Tree as tree;
+ghost use Rattle.trie_model.specs.Tree.{Tree, below, tree_of};
+ghost use Rattle.trie_model.specs.Texts.{usage};
 ghost use Rattle.trie_model.specs.Root.{NoClash, root, subtree_at, texts_of};
 ghost use Rattle.trie_shape.specs.declared.closed.Closed.{Closed};
 ghost use Rattle.trie_shape.specs.declared.sub.Sub.{Sub};
 ghost use Rattle.trie_shape.specs.declared.sub.Sub.TheVariants.{Branch};
-ghost use Rattle.trie_shape.specs.Runs.{DoFork};
-ghost use Rattle.trie_shape.specs.Shows.{IsTop, MayClose, Shows, child_of, usage_of};
+ghost use Rattle.trie_shape.specs.Shows.{IsBranchOf, IsTop, MayClose, Shows, usage_of};
 
 /// Where different texts of two states have different digests, and none the zero digest, equal
 /// roots mean equal states.
@@ -30,16 +28,19 @@ pub fn subtrees_of_states_may_close()
     ensures { (state : State) → IsState state → (place : List ℕ) (sub : Sub) → Shows sub (subtree_at state place) → MayClose sub }
 {}
 
-/// Where the rows below a place of a state fork, the branch of their value and their children meets
-/// the condition of `close_branch`.
+/// The branch of the rows below a place of a state, where they fork, meets the condition of
+/// `close_branch`.
 pub fn branches_of_states_may_close()
-    ensures { (state : State) → IsState state → (place : List ℕ) → DoFork (below place (rows_of state)) → (value : Option ValueOfRecord) (kids : ℕ → Option (List ℕ)) →
-        value ≡ option_map value_ref (ends_here (below place (rows_of state))) →
-        ((x : ℕ) → x < 16 → kids x ≡ name_of (child_of (below place (rows_of state)) x) (text (child_of (below place (rows_of state)) x))) →
-        IsShaped (node.branch value kids) }
+    ensures { (state : State) → IsState state → (place : List ℕ) (value : Option ValueOfRecord) (kids : ℕ → Option (List ℕ)) (used : ℕ) → IsBranchOf (below place (rows_of state)) value kids used → IsShaped (branch value kids) }
+{}
+
+/// What the branch of rows that fork costs, and what its children use, is what the trie of the rows
+/// uses.
+pub fn branches_use_what_their_rows_do()
+    ensures { (rows : List Row) (value : Option ValueOfRecord) (kids : ℕ → Option (List ℕ)) (used : ℕ) → IsBranchOf rows value kids used → own_cost (branch value kids) + used ≡ usage (tree_of rows) }
 {}
 
 /// A branch whose record is written is a subtree that shows it.
 pub fn closed_branches_show()
-    ensures { (closed : Closed) (value : Option (List ℕ)) (kids : ℕ → Tree) → IsTop closed (branch value kids) → Shows (Branch closed.digest closed.usage) (branch value kids) }
+    ensures { (closed : Closed) (value : Option (List ℕ)) (kids : ℕ → Tree) → IsTop closed (tree.branch value kids) → Shows (Branch closed.digest closed.usage) (tree.branch value kids) }
 {}

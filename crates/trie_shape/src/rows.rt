@@ -56,7 +56,10 @@ pub(crate) fn shared_length(first: &[u8], last: &[u8], depth: u64) -> u64
 }
 
 /// The value of the row whose key ends at a depth, if one does, and the rows that go on.
-pub(crate) fn ending<'a, 'b>(rows: &'a [KeyValue<'b>], depth: u64) -> (Option<ValueRef>, &'a [KeyValue<'b>])
+pub(crate) fn ending<'a, 'b>(
+    rows: &'a [KeyValue<'b>],
+    depth: u64,
+) -> (Option<ValueRef>, &'a [KeyValue<'b>])
     requires { AreRowsAt depth rows.now }
     ensures value { option_map value_of result.0 ≡ option_map texts.value_ref (ends_here (rows_at depth rows.now)) }
     ensures left { IsLeft 0 depth rows.now result.1.now }

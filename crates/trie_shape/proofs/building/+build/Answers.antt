@@ -2,14 +2,14 @@ use Rattle.std.proofs.Common.{◌≡◌, ◌+◌, ◌<◌, ◌≤◌, ◌^◌, l
 use Rattle.byte_model.specs.PackedPath.{longest_path}
 use Rattle.byte_model.specs.Node.{IsShaped, own_cost}
 use Rattle.byte_model.specs.Node as node
-use Rattle.trie_model.specs.Tree.{ends_here, tree_of}
+use Rattle.trie_model.specs.Tree.{tree_of}
 use Rattle.node_codec.specs.Meanings.{value_of, children_in}
 use Rattle.trie_shape.specs.RowsAt.{rows_at}
 use Rattle.trie_shape.proofs.Runs.{run-short}
-use Rattle.trie_shape.specs.Shows.{Shows, AreChildren, child_of}
-use Rattle.trie_shape.proofs.Branches.{gathered-none, length-rows_at, kept-rows_at, turn-rows, turn-fits, turn-adds, turn-more, IsGathered, end-children, end-shaped, end-fits, forks}
-use Rattle.trie_shape.proofs.Kept.{sound-tree_of, tree-forks}
-use Rattle.trie_shape.proofs.Shows.{may_close, usage-shown}
+use Rattle.trie_shape.specs.Shows.{IsBranchOf}
+use Rattle.trie_shape.proofs.Branches.{gathered-none, length-rows_at, kept-rows_at, turn-rows, turn-fits, turn-adds, turn-more, IsGathered, end-branch, forks}
+use Rattle.trie_shape.proofs.Kept.{sound-tree_of, shaped-forks}
+use Rattle.trie_shape.proofs.Shows.{may_close, usage-shown, branch-uses}
 use Rattle.trie_shape.proofs.Subtrees.{empty-shown, one-shown, shared-prefix, deeper-short, deeper-rows, deeper-apart, deeper-fits, deep-first, several-shown}
 use Rattle.std.proofs.lemmas.Result.{IfOk-weaker}
 use Rattle.trie_shape.proofs.building.+build.Goals as goal
@@ -54,9 +54,14 @@ branch-loop-nibble-preserved t c =
 pub branch-fork_of-requires : goal.branch-fork_of-requires
 branch-fork_of-requires t c =
     let done : c.loop-nibble.nibble ≡ 16 = omega arith in
+    let rows = rows_at c.args.depth c.args.rows.now in
     let value = option_map value_of c.ending-value.result.0 in
-    let shaped = end-shaped c.args.depth c.args.rows.now c.loop-nibble.rest.now c.loop-nibble.nibble c.loop-nibble.kids.value c.loop-nibble.kids_usage done c.loop-nibble.invariant c.requires.forks c.requires.rows value c.ending-value.ensures.value in
-    let fits = end-fits c.args.depth c.args.rows.now c.loop-nibble.rest.now c.loop-nibble.nibble c.loop-nibble.kids.value c.loop-nibble.kids_usage done c.loop-nibble.invariant c.requires.forks value c.ending-value.ensures.value c.requires.fits in
+    let kids = children_in c.loop-nibble.kids.value in
+    let is = end-branch c.args.depth c.args.rows.now c.loop-nibble.rest.now c.loop-nibble.nibble c.loop-nibble.kids.value c.loop-nibble.kids_usage done c.loop-nibble.invariant c.requires.forks value c.ending-value.ensures.value in
+    let shaped = shaped-forks rows (kept-rows_at c.args.depth c.args.rows.now c.requires.rows) value kids c.loop-nibble.kids_usage is in
+    let uses = branch-uses rows value kids c.loop-nibble.kids_usage is in
+    let whole = c.requires.fits in
+    let fits : own_cost (node.branch value kids) + c.loop-nibble.kids_usage < 2 ^ 64 = omega arith in
     record {
       shaped = subst (λ kids. IsShaped (node.branch value (children_in kids))) (sym c.deref.ensures) shaped;
       fits = subst (λ kids. own_cost (node.branch value (children_in kids)) + c.loop-nibble.kids_usage < 2 ^ 64) (sym c.deref.ensures) fits;
@@ -66,10 +71,9 @@ pub branch-returns : goal.branch-returns
 branch-returns t c =
     let done : c.loop-nibble.nibble ≡ 16 = omega arith in
     let rows = rows_at c.args.depth c.args.rows.now in
-    let children = end-children c.args.depth c.args.rows.now c.loop-nibble.rest.now c.loop-nibble.nibble c.loop-nibble.kids.value c.loop-nibble.kids_usage done c.loop-nibble.invariant c.requires.forks in
-    IfOk-weaker c.fork_of.result _ _ (λ sub shows.
-    subst (Shows sub) (sym (tree-forks rows c.requires.forks))
-    (shows (ends_here rows) (child_of rows) c.ending-value.ensures.value (subst (λ kids. AreChildren (children_in kids) c.loop-nibble.kids_usage (child_of rows)) (sym c.deref.ensures) children))) c.fork_of.ensures
+    let value = option_map value_of c.ending-value.result.0 in
+    let is = end-branch c.args.depth c.args.rows.now c.loop-nibble.rest.now c.loop-nibble.nibble c.loop-nibble.kids.value c.loop-nibble.kids_usage done c.loop-nibble.invariant c.requires.forks value c.ending-value.ensures.value in
+    IfOk-weaker c.fork_of.result _ _ (λ sub shows. shows rows (subst (λ kids. IsBranchOf rows value (children_in kids) c.loop-nibble.kids_usage) (sym c.deref.ensures) is)) c.fork_of.ensures
 
 pub named-name_of-requires : goal.named-name_of-requires
 named-name_of-requires t c =
@@ -108,7 +112,7 @@ subtree-branch-alloc-requires t c =
           short,
           (
             forks (c.args.depth + c.shared_length-shared.result) c.args.rows.now (deeper-apart c.args.depth c.shared_length-shared.result c.args.rows.now c.requires.rows shared) two,
-              deeper-fits c.args.depth c.shared_length-shared.result c.args.rows.now c.requires.rows shared two c.requires.fits,
+            deeper-fits c.args.depth c.shared_length-shared.result c.args.rows.now c.requires.rows shared two c.requires.fits,
           ),
         ),
       ),

@@ -1,9 +1,9 @@
 use Rattle.std.proofs.Common.{Err, ap, ◌∙◌, arith}
-use Rattle.trie_shape.proofs.Shows.{branch-shown}
+use Rattle.trie_shape.proofs.Shows.{rows-shown}
 use Rattle.trie_shape.proofs.building.fork_of.Goals as goal
 
 pub returns-in-Ok : goal.returns-in-Ok
-returns-in-Ok c = λ v trees e children. branch-shown c.in-Ok.closed v trees (c.in-Ok.ensures.shows v trees e children)
+returns-in-Ok c = λ rows is. rows-shown c.in-Ok.closed rows is.fork (c.in-Ok.ensures.rows rows is)
 
 pub unreachable-requires : goal.unreachable-requires
 unreachable-requires c =
