@@ -17,10 +17,10 @@ use Rattle.trie_model.proofs.Order.{RisingRows, rising-below}
 use Rattle.trie_model.proofs.Pairs.{Small}
 use Rattle.trie_model.proofs.Shapes.{ShortValues}
 use Rattle.node_codec.specs.Meanings.{children_in}
-use Rattle.trie_shape.specs.Runs.{StartsFrom, AllFrom, run_of, tails, prefix_of, DoFork}
+use Rattle.trie_shape.specs.Runs.{Rises, StartsFrom, AllFrom, run_of, tails, prefix_of, DoFork}
 use Rattle.trie_shape.specs.RowsAt.{Lent, row_at, rows_at, IsRowAt, AreRowsAt, IsLeft}
 use Rattle.trie_shape.specs.Shows.{IsName, child_of, IsBranchOf}
-use Rattle.trie_shape.proofs.Runs.{after-run, below-run, below-after, rising-drop}
+use Rattle.trie_shape.proofs.Runs.{rising, rises, after-run, below-run, below-after, rising-drop}
 use Rattle.trie_shape.proofs.Kept.{HasShortPath, AreKept}
 use Rattle.trie_shape.proofs.Shows.{usage-forks}
 
@@ -74,16 +74,19 @@ module _ (x depth : ℕ) (whole rest : List Lent) (left : IsLeft x depth whole r
   run : ℕ
   run = run_of x (rows_at depth rest)
 
+  rising_rest : RisingRows (rows_at depth rest)
+  rising_rest = rising (rows_at depth rest) left.rows.rises
+
   run_below : rows_at (depth + 1) (take run rest) ≡ below (x ∷ []) (rows_at depth whole)
   unfolding run
   run_below =
       sym (tails-rows_at depth (take run rest)) ∙ ap tails (rows_at-take depth run rest)
-      ∙ sym (below-run x (rows_at depth rest) left.rows.rises left.from) ∙ sym (left.below x (omega arith))
+      ∙ sym (below-run x (rows_at depth rest) rising_rest left.from) ∙ sym (left.below x (omega arith))
 
   run_rows : AreRowsAt (depth + 1) (take run rest)
   unfolding run
   run_rows = record {
-    rises = subst RisingRows (below-run x (rows_at depth rest) left.rows.rises left.from ∙ ap tails (sym (rows_at-take depth run rest)) ∙ tails-rows_at depth (take run rest)) (rising-below (x ∷ []) (rows_at depth rest) left.rows.rises);
+    rises = subst Rises (below-run x (rows_at depth rest) rising_rest left.from ∙ ap tails (sym (rows_at-take depth run rest)) ∙ tails-rows_at depth (take run rest)) (rises (below (x ∷ []) (rows_at depth rest)) (rising-below (x ∷ []) (rows_at depth rest) rising_rest));
     each = AllByRecursion-take (IsRowAt (depth + 1)) run rest (deeper depth x rest left.from left.rows.each);
   }
 
@@ -93,8 +96,8 @@ module _ (x depth : ℕ) (whole rest : List Lent) (left : IsLeft x depth whole r
       let as_drop = rows_at-drop depth run rest in
       let next : suc x ≡ x + 1 = omega arith in
       record {
-        rows = record { rises = subst RisingRows (sym as_drop) (rising-drop run (rows_at depth rest) left.rows.rises); each = AllByRecursion-drop (IsRowAt depth) run rest left.rows.each };
-        from = subst (λ (rs : List Row). AllFrom (x + 1) rs) (sym as_drop) (subst (λ y. AllFrom y (drop run (rows_at depth rest))) next (after-run x (rows_at depth rest) left.rows.rises left.from));
+        rows = record { rises = subst Rises (sym as_drop) (rises (drop run (rows_at depth rest)) (rising-drop run (rows_at depth rest) rising_rest)); each = AllByRecursion-drop (IsRowAt depth) run rest left.rows.each };
+        from = subst (λ (rs : List Row). AllFrom (x + 1) rs) (sym as_drop) (subst (λ y. AllFrom y (drop run (rows_at depth rest))) next (after-run x (rows_at depth rest) rising_rest left.from));
         below = λ y h. left.below y (omega arith) ∙ below-after x y (rows_at depth rest) (omega arith) ∙ ap (below (y ∷ [])) (sym as_drop);
       }
 
@@ -178,7 +181,7 @@ nibbles_at depth [] h = tt
 nibbles_at depth (row ∷ rows) h = (AllByRecursion-drop (λ nibble. nibble < 16) depth (nibbles row.0.now) h.0.nibbles, nibbles_at depth rows h.1)
 
 pub kept-rows_at : (depth : ℕ) (rows : List Lent) → AreRowsAt depth rows → AreKept (rows_at depth rows)
-kept-rows_at depth rows h = record { rise = h.rises; nibbles = nibbles_at depth rows h.each; paths = short_at depth rows h.each; values = values_at depth rows h.each }
+kept-rows_at depth rows h = record { rise = rising (rows_at depth rows) h.rises; nibbles = nibbles_at depth rows h.each; paths = short_at depth rows h.each; values = values_at depth rows h.each }
 
 -- ---- a turn of the loop, where the rows were split behind the run
 

@@ -10,7 +10,7 @@ use Rattle.trie_model.proofs.Rests.{equal_of_test}
 use Rattle.trie_model.proofs.Order.{Before, RisingRows}
 use Rattle.trie_shape.specs.Runs.{StartsFrom, AllFrom, goes_on, run_of}
 use Rattle.trie_shape.specs.RowsAt.{Lent, row_at, rows_at, AreRowsAt, IsLeft}
-use Rattle.trie_shape.proofs.Runs.{first_or_rest, all-behind, none-ends, ends-first, below-first}
+use Rattle.trie_shape.proofs.Runs.{rising, rises, first_or_rest, all-behind, none-ends, ends-first, below-first}
 
 -- ---- how long a run is
 
@@ -41,12 +41,12 @@ first_of x (y ∷ p) (z ∷ q) from before goes =
 
 -- rising rows go on with the lowest nibble up to some place
 pub parted : (x depth : ℕ) (rows : List Lent) → RisingRows (rows_at depth rows) → AllFrom x (rows_at depth rows) → IsPartitionedBy (λ row. goes_on x (row_at depth row).0) rows
-parted x depth [] rises from i j d le h goes = absurd (omega arith)
-parted x depth (row ∷ rows) rises from zero zero d le h goes = goes
-parted x depth (row ∷ rows) rises from zero (suc j) d le h goes =
-    first_of x (row_at depth row).0 (row_at depth (get_or rows j d)).0 from.0 (each_at (λ other. Before (row_at depth row).0 other.0) depth rows j d (omega arith) rises.0) goes
-parted x depth (row ∷ rows) rises from (suc i) zero d le h goes = absurd (omega arith)
-parted x depth (row ∷ rows) rises from (suc i) (suc j) d le h goes = parted x depth rows rises.1 from.1 i j d (omega arith) (omega arith) goes
+parted x depth [] up from i j d le h goes = absurd (omega arith)
+parted x depth (row ∷ rows) up from zero zero d le h goes = goes
+parted x depth (row ∷ rows) up from zero (suc j) d le h goes =
+    first_of x (row_at depth row).0 (row_at depth (get_or rows j d)).0 from.0 (each_at (λ other. Before (row_at depth row).0 other.0) depth rows j d (omega arith) up.0) goes
+parted x depth (row ∷ rows) up from (suc i) zero d le h goes = absurd (omega arith)
+parted x depth (row ∷ rows) up from (suc i) (suc j) d le h goes = parted x depth rows up.1 from.1 i j d (omega arith) (omega arith) goes
 
 pub point-run : (x depth : ℕ) (rows : List Lent) (i : ℕ) → i ≤ length rows
     → IsPartitionPoint (λ row. goes_on x (row_at depth row).0 ≡ true) (λ row. goes_on x (row_at depth row).0 ≡ false) rows i → i ≡ run_of x (rows_at depth rows)
@@ -72,7 +72,7 @@ drop_some (x ∷ p) zero h = omega arith
 drop_some (x ∷ p) (suc n) h = drop_some p n (omega arith)
 
 pub tail_rows : (depth : ℕ) (row : Lent) (rows : List Lent) → AreRowsAt depth (row ∷ rows) → AreRowsAt depth rows
-tail_rows depth row rows h = record { rises = h.rises.1; each = h.each.1 }
+tail_rows depth row rows h = record { rises = rises (rows_at depth rows) (rising (rows_at depth (row ∷ rows)) h.rises).1; each = h.each.1 }
 
 module _ (depth : ℕ) (rows rest : List Lent) (row : Lent) where
   pub ends-row : rows ≡ row ∷ rest → AreRowsAt depth rows → length (nibbles row.0.now) ≡ depth → Some (value_ref row.1.now) ≡ option_map value_ref (ends_here (rows_at depth rows))
@@ -87,7 +87,7 @@ module _ (depth : ℕ) (rows rest : List Lent) (row : Lent) where
       let none : drop depth (nibbles row.0.now) ≡ [] = drop_all (nibbles row.0.now) depth (omega arith) in
       record {
         rows = tail_rows depth row rest whole;
-        from = all-behind (row_at depth row) (rows_at depth rest) whole.rises;
+        from = all-behind (row_at depth row) (rows_at depth rest) (rising (rows_at depth (row ∷ rest)) whole.rises);
         below = λ y _. ap (λ (rs : List Lent). below (y ∷ []) (rows_at depth rs)) e ∙ ap (λ (p : List ℕ). below (y ∷ []) ((p, row.1.now) ∷ rows_at depth rest)) none ∙ below-first y row.1.now (rows_at depth rest);
       }
 
@@ -96,7 +96,7 @@ module _ (depth : ℕ) (rows rest : List Lent) (row : Lent) where
       let whole = subst (AreRowsAt depth) e h in
       let deep = whole.each.0.deep in
       let longer : depth < length (nibbles row.0.now) = grind (arith, goes) in
-      subst (λ (rs : List Lent). AllFrom 0 (rows_at depth rs)) (sym e) (drop_some (nibbles row.0.now) depth longer, all-behind (row_at depth row) (rows_at depth rest) whole.rises)
+      subst (λ (rs : List Lent). AllFrom 0 (rows_at depth rs)) (sym e) (drop_some (nibbles row.0.now) depth longer, all-behind (row_at depth row) (rows_at depth rest) (rising (rows_at depth (row ∷ rest)) whole.rises))
 
   pub goes-row : rows ≡ row ∷ rest → AreRowsAt depth rows → (length (nibbles row.0.now) ≡ depth → ⊥) → None ≡ option_map value_ref (ends_here (rows_at depth rows))
   goes-row e h goes = sym (ap (option_map value_ref) (none-ends (rows_at depth rows) (going_on e h goes)))

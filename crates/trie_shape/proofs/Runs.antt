@@ -1,15 +1,16 @@
 -- Rows by rising paths: which of them ends here, and the runs of a first nibble.
-use Rattle.std.proofs.Common.{◌≡◌, ℕ, zero, suc, ◌<◌, ◌≤◌, ◌==◌, true, false, List, [], ◌∷◌, length, take, drop, None, Some, if◌then◌else◌, ◌⊎◌, inl, inr, refl, sym, ◌∙◌, ap, subst, arith}
+use Rattle.std.proofs.Common.{◌≡◌, ℕ, zero, suc, ◌<◌, ◌≤◌, ◌==◌, true, false, List, [], ◌∷◌, length, map, take, drop, None, Some, if◌then◌else◌, ◌⊎◌, inl, inr, refl, sym, ◌∙◌, ap, subst, arith}
 use Rattle.std.proofs.lemmas.Bool.{cases_eq}
 use Rattle.std.proofs.lemmas.Bool.Decides.{nat_tests}
 use Rattle.std.specs.List.{AllByRecursion}
+use Rattle.std.specs.List.Sorted.{IsStrictlySortedBy}
 use Rattle.byte_model.proofs.Lists.{AllByRecursion-weaker}
 use Rattle.trie_model.specs.State.{Row}
 use Rattle.trie_model.specs.Tree.{rest_behind, below, ends_here}
 use Rattle.trie_model.proofs.Rests.{equal_of_test}
 use Rattle.trie_model.proofs.Order.{Before, RisingRows, slice_cmp-prefix}
 use Rattle.trie_model.proofs.Pairs.{from_before}
-use Rattle.trie_shape.specs.Runs.{StartsFrom, AllFrom, run_of, tails}
+use Rattle.trie_shape.specs.Runs.{Rises, StartsFrom, AllFrom, run_of, tails}
 
 apart : (x y : ℕ) → x < y → (x == y) ≡ false
 apart x y h = grind (arith, nat_tests)
@@ -19,6 +20,26 @@ apart' x y h = grind (arith, nat_tests)
 
 unequal : (x y : ℕ) → (x == y) ≡ false → x ≤ y → x < y
 unequal x y t h = grind (arith, nat_tests)
+
+-- ---- rows in order, by recursion and by their paths
+
+all_rows : (p : List ℕ) (rows : List Row) → AllByRecursion (λ q. Before p q) (map (λ row. row.0) rows) → AllByRecursion (λ later. Before p later.0) rows
+all_rows p [] h = tt
+all_rows p (row ∷ rows) h = (h.0, all_rows p rows h.1)
+
+all_paths : (p : List ℕ) (rows : List Row) → AllByRecursion (λ later. Before p later.0) rows → AllByRecursion (λ q. Before p q) (map (λ row. row.0) rows)
+all_paths p [] h = tt
+all_paths p (row ∷ rows) h = (h.0, all_paths p rows h.1)
+
+pub rising : (rows : List Row) → Rises rows → RisingRows rows
+unfolding IsStrictlySortedBy
+rising [] h = tt
+rising (row ∷ rows) h = (all_rows row.0 rows h.0, rising rows h.1)
+
+pub rises : (rows : List Row) → RisingRows rows → Rises rows
+unfolding IsStrictlySortedBy
+rises [] h = tt
+rises (row ∷ rows) h = (all_paths row.0 rows h.0, rises rows h.1)
 
 -- ---- one path before another
 

@@ -12,12 +12,14 @@ use Rattle.trie_model.specs.Texts.{usage, text, name_of}
 use Rattle.trie_model.specs.Root.{zero_digest, root_of, root, total, subtree_at}
 use Rattle.trie_model.proofs.Bounds.{usage-lt}
 use Rattle.trie_model.proofs.Costs.{subtree_at-root}
-use Rattle.trie_model.proofs.Order.{RisingRows, rising-rows_of}
+use Rattle.trie_model.proofs.Order.{rising-rows_of}
 use Rattle.base_core.specs.declared.hash.Digest.{Digest}
 use Rattle.base_core.specs.PairMaps.{PairMap, IsPairMap}
 use Rattle.trie_shape.specs.declared.sub.Sub.{Sub}
+use Rattle.trie_shape.specs.Runs.{Rises}
 use Rattle.trie_shape.specs.RowsAt.{Lent, rows_at, IsRowAt, AreRowsAt}
 use Rattle.trie_shape.specs.Shows.{Shows, MayClose, IsName, IsBranchOf}
+use Rattle.trie_shape.proofs.Runs.{rises}
 use Rattle.trie_shape.proofs.Kept.{kept-below, kept-rows_of, sound-tree_of, shaped-forks}
 use Rattle.trie_shape.proofs.Shows.{may_close}
 
@@ -48,7 +50,7 @@ each-row (row ∷ rows) h =
 module _ (held : PairMap) (rows : List Lent) (is : IsPairMap held) (e : lent rows ≡ entries held.state) where
   pub state-rows : AreRowsAt 0 rows
   state-rows = record {
-    rises = subst RisingRows (sym (rows_at-state held.state rows e)) (rising-rows_of held.state);
+    rises = subst Rises (sym (rows_at-state held.state rows e)) (rises (rows_of held.state) (rising-rows_of held.state));
     each = each-row rows (subst (AllByRecursion IsPair) (sym e) is.pairs);
   }
 

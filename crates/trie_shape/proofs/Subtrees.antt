@@ -10,13 +10,13 @@ use Rattle.trie_model.specs.State.{Row}
 use Rattle.trie_model.specs.Tree.{Tree, leaf, branch, common, tree_of}
 use Rattle.trie_model.specs.Texts.{usage}
 use Rattle.trie_model.proofs.Growth.{last_row, common_prefix-rising}
-use Rattle.trie_model.proofs.Order.{RisingRows}
 use Rattle.trie_model.proofs.Trees.{tree_of-nil, tree_of-one}
 use Rattle.trie_shape.specs.declared.sub.Sub.{Sub}
 use Rattle.trie_shape.specs.declared.sub.Sub.TheVariants.{Empty}
-use Rattle.trie_shape.specs.Runs.{prefix_of}
+use Rattle.trie_shape.specs.Runs.{Rises, prefix_of}
 use Rattle.trie_shape.specs.RowsAt.{Lent, row_at, rows_at, IsRowAt, AreRowsAt}
 use Rattle.trie_shape.specs.Shows.{Shows}
+use Rattle.trie_shape.proofs.Runs.{rising, rises}
 use Rattle.trie_shape.proofs.Prefixes.{dropped, rest_of, all-prefix, tree-rest, rising-rest, rest-apart}
 use Rattle.trie_shape.proofs.Kept.{tree-forks}
 use Rattle.trie_shape.proofs.Branches.{forks}
@@ -46,7 +46,7 @@ shared-prefix depth [] d some h = absurd (omega arith)
 shared-prefix depth (row ∷ rows) d some h =
     let end : suc (length rows) - 1 ≡ length rows = omega arith in
     let last = ap (λ (r : Row). r.0) (last-rows_at depth row rows d) ∙ ap (λ n. at_depth depth (get_or (row ∷ rows) n d)) (sym end) in
-    ap length (ap (common (at_depth depth row)) (sym last) ∙ sym (common_prefix-rising (row_at depth row) (rows_at depth rows) h.rises))
+    ap length (ap (common (at_depth depth row)) (sym last) ∙ sym (common_prefix-rising (row_at depth row) (rows_at depth rows) (rising (rows_at depth (row ∷ rows)) h.rises)))
 
 dropped-rows_at : (depth n : ℕ) (rows : List Lent) → dropped n (rows_at depth rows) ≡ rows_at (depth + n) rows
 dropped-rows_at depth n [] = refl
@@ -75,7 +75,7 @@ module _ (depth shared : ℕ) (rows : List Lent) (are : AreRowsAt depth rows) (i
 
   pub deeper-rows : AreRowsAt (depth + shared) rows
   deeper-rows = record {
-    rises = subst RisingRows deeper_is (rising-rest here are.rises);
+    rises = subst Rises deeper_is (rises (rest_of here) (rising-rest here (rising here are.rises)));
     each = subst (λ n. AllByRecursion (IsRowAt (depth + n)) rows) (sym is) (each-deeper depth (prefix_of here) rows (all-prefix here) are.each);
   }
 

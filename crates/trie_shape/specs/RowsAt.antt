@@ -8,8 +8,7 @@ use Rattle.byte_model.specs.PackedPath.{longest_path}
 use Rattle.byte_model.specs.Node.{longest_value}
 use Rattle.trie_model.specs.State.{Row}
 use Rattle.trie_model.specs.Tree as tree
-use Rattle.trie_model.proofs.Order.{RisingRows}
-use Rattle.trie_shape.specs.Runs.{AllFrom}
+use Rattle.trie_shape.specs.Runs.{Rises, AllFrom}
 
 -- a key and its value
 abbrev pub Lent : Type 0
@@ -30,7 +29,7 @@ pub record IsRowAt (depth : ℕ) (row : Lent) : Type 0 where
 
 -- all do, and their keys rise from there on
 pub record AreRowsAt (depth : ℕ) (rows : List Lent) : Type 0 where
-  pub rises : RisingRows (rows_at depth rows)
+  pub rises : Rises (rows_at depth rows)
   pub each : AllByRecursion (IsRowAt depth) rows
 
 -- What is left of rows once those that end here, or go on with a nibble below x, are taken.

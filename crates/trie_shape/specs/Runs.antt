@@ -1,8 +1,15 @@
--- Rows and their first nibbles: the runs of rows that go on with one nibble, and what all rows share.
+-- Rows in order and their first nibbles: the runs of rows that go on with one nibble, and what all rows share.
 use Rattle.std.specs.Prelude.{◌≡◌, ℕ, suc, ◌≤◌, ◌==◌, Bool, false, List, [], ◌∷◌, length, map, drop, if◌then◌else◌}
 use Rattle.std.specs.List.{AllByRecursion}
+use Rattle.std.specs.List.Sorted.{IsStrictlySortedBy}
+use Rattle.std.specs.Ordering.{nat_cmp}
+use Rattle.std.specs.Cmp.Lexicographic.{slice_cmp}
 use Rattle.trie_model.specs.State.{Row}
 use Rattle.trie_model.specs.Tree.{common_prefix}
+
+-- each path stands before those of later rows, a prefix first
+abbrev pub Rises : List Row → Type 0
+Rises rows = IsStrictlySortedBy (slice_cmp nat_cmp) (map (λ row. row.0) rows)
 
 -- each path has a nibble, and the first is at least x
 abbrev pub StartsFrom : ℕ → List ℕ → Type 0

@@ -4,8 +4,7 @@ ghost use Rattle.byte_model.specs.Node.{longest_value};
 ghost use Rattle.trie_model.specs.Tree.{common, ends_here};
 ghost use Rattle.trie_model.specs.Texts as texts;
 ghost use Rattle.node_codec.specs.Meanings.{value_of};
-ghost use Rattle.trie_model.proofs.Order.{RisingRows};
-ghost use Rattle.trie_shape.specs.Runs.{AllFrom, goes_on, run_of};
+ghost use Rattle.trie_shape.specs.Runs.{Rises, AllFrom, goes_on, run_of};
 ghost use Rattle.trie_shape.specs.RowsAt.{rows_at, AreRowsAt, IsLeft};
 
 use base_core::{Text, Writer, digest};
@@ -77,7 +76,7 @@ pub(crate) fn ending<'a, 'b>(
 /// How many rows go on with a nibble at a depth, where none goes on with a lower one. They are the
 /// first ones, so the place where they end is searched for.
 pub(crate) fn run_length(rows: &[KeyValue<'_>], depth: u64, nibble: u8) -> usize
-    requires rises { RisingRows (rows_at depth rows.now) }
+    requires rises { Rises (rows_at depth rows.now) }
     requires from { AllFrom nibble (rows_at depth rows.now) }
     ensures { result ≡ run_of nibble (rows_at depth rows.now) }
 {
