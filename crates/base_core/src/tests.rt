@@ -41,11 +41,22 @@ fn pairs_in_order(rt: HostRuntime) -> Result<(), Fail> {
 
 #[test]
 fn fields_in_order(rt: HostRuntime) -> Result<(), Fail> {
-    let mut writer = Writer::new(rt.alloc());
-    writer.put_raw(b"\x07\x34\x01\x78\x56\x34\x12\x34\x01\0\0\0\0\0\0")?;
-    writer.put_raw(&[9; 32])?;
-    writer.put_raw(b"\x02\0\0\0\xab\xcd\0\0\0\0\x05")?;
+    let alloc = rt.alloc();
+    let mut writer = Writer::with_capacity(alloc, 58)?;
+    writer.put_u8(7)?;
+    writer.put_u16(308)?;
+    writer.put_u32(0x12345678)?;
+    writer.put_u64(308)?;
+    writer.put_raw(&[9; DIGEST_BYTES])?;
+    writer.put_bytes(b"\xab\xcd")?;
+    writer.put_bytes(b"")?;
+    writer.put_u8(5)?;
     let text = writer.into_text();
+    let mut spelled = Writer::new(alloc);
+    spelled.put_raw(b"\x07\x34\x01\x78\x56\x34\x12\x34\x01\0\0\0\0\0\0")?;
+    spelled.put_raw(&[9; DIGEST_BYTES])?;
+    spelled.put_raw(b"\x02\0\0\0\xab\xcd\0\0\0\0\x05")?;
+    assert_eq!(rt; text.as_slice(), spelled.into_text().as_slice());
     let mut reader = Reader::new(text.as_slice());
     assert_eq!(rt; reader.u8(), Ok(7));
     assert_eq!(rt; reader.u16(), Ok(308));

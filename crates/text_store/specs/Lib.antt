@@ -1,5 +1,16 @@
+-- in reading order
+
+-- what is told of a store
 pub mod Store
+
+-- what a load says and leaves
 pub mod Loading
+
+-- what a call with several visits leaves
 pub mod Leaves
+
+-- texts with counts
 pub mod Counting
+
+-- a store in memory
 pub mod StoreStates
