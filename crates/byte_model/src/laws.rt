@@ -9,7 +9,7 @@ ghost use Rattle.byte_model.specs.PackedPath.{packed};
 ghost use Rattle.byte_model.specs.Node.{Node, spelled};
 ghost use Rattle.byte_model.specs.Laws.{FitsRecord, SameNode};
 
-/// Each integer takes the bytes of its width, and no two integers are spelled alike.
+/// Each integer takes the bytes of its width, and no two that fit the width are spelled alike.
 pub fn integers_are_spelled_apart()
     ensures two_bytes { (n : ℕ) → length (borsh_u16 n) ≡ 2 }
     ensures four_bytes { (n : ℕ) → length (borsh_u32 n) ≡ 4 }
@@ -27,7 +27,7 @@ pub fn nibbles_keep_keys_apart()
     ensures order { (a b : List ℕ) → slice_cmp nat_cmp (nibbles a) (nibbles b) ≡ slice_cmp nat_cmp a b }
 {}
 
-/// No two paths are packed alike, and none as a leaf's and as another's. A packed path has a byte for the flags and one for each two nibbles.
+/// No two paths of nibbles are packed alike, and none as a leaf's and as another's. A packed path has a byte for the flags and one for each two nibbles.
 pub fn paths_are_packed_apart()
     ensures apart { (leaf other : Bool) (p q : List ℕ) → AreNibbles p → AreNibbles q → packed leaf p ≡ packed other q → (leaf ≡ other) × (p ≡ q) }
     ensures count { (leaf : Bool) (path : List ℕ) → length (packed leaf path) ≡ length path / 2 + 1 }

@@ -2,7 +2,11 @@ ghost use Rattle.std.specs.Prelude.{◌≡◌, ◌<◌, ◌≤◌, length, drop,
 ghost use Rattle.byte_model.specs.Nibbles.{nibbles};
 ghost use Rattle.nibble_keys.specs.CommonLength.{IsCommonLength};
 
+use base_core::LONGEST_KEY;
 use std::marker::Model;
+
+/// The most nibbles that a path may have: those of the longest key.
+pub const LONGEST_PATH: u64 = 2 * LONGEST_KEY;
 
 /// A key as nibbles, two for each byte and the high one first, from some nibble on. It takes no
 /// memory, and all of its lengths and indexes are in nibbles.

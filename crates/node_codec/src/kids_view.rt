@@ -1,10 +1,10 @@
 ghost use Rattle.std.specs.Prelude.{◌≡◌, ◌+◌, ◌*◌, ◌<◌, ◌≤◌, ◌==◌, length, take, drop};
 ghost use Rattle.std.specs.Option.{option_map};
-ghost use Rattle.byte_model.specs.Node.{child_count};
+ghost use Rattle.byte_model.specs.Node.{child_count, digest_width};
 ghost use Rattle.record_model.specs.Records.{bit, bits_below};
 ghost use Rattle.node_codec.specs.Children.{children_viewed};
 
-use base_core::Digest;
+use base_core::{DIGEST_BYTES, Digest};
 use std::marker::Model;
 
 /// The children of a branch, read where they stand in its record: a bit for each of the sixteen
@@ -17,6 +17,7 @@ pub struct KidsView<'a> {
 
 impl<'a> Model for KidsView<'a> {
     ghost use Rattle.std.specs.Prelude.{◌≡◌, ◌*◌, length};
+    ghost use Rattle.byte_model.specs.Node.{digest_width};
     ghost use Rattle.record_model.specs.Records.{bits_below};
     ghost use Rattle.node_codec.specs.Children.{Children, children_code};
 
@@ -26,13 +27,13 @@ impl<'a> Model for KidsView<'a> {
 
     ghost view = { λ kids. record { bitmap = kids.bitmap; digests = kids.digests.now } };
 
-    ghost invariant = { λ kids. length kids.digests.now ≡ 32 * bits_below kids.bitmap 16 };
+    ghost invariant = { λ kids. length kids.digests.now ≡ digest_width * bits_below kids.bitmap 16 };
 }
 
 impl<'a> KidsView<'a> {
     /// Children by their bitmap and the digests of those that are there.
     pub(crate) fn new(bitmap: u16, digests: &'a [u8]) -> KidsView<'a>
-        requires { length digests.now ≡ 32 * bits_below bitmap 16 }
+        requires { length digests.now ≡ digest_width * bits_below bitmap 16 }
         ensures { result ≡ record { bitmap = bitmap; digests = digests.now } }
     {
         KidsView { bitmap, digests }
@@ -86,12 +87,9 @@ fn bits_below(bitmap: u16, i: u8) -> usize
 
 /// The digest that so many others stand before.
 fn digest_at(digests: &[u8], before: usize) -> Digest
-    requires { 32 * before + 32 ≤ length digests.now }
-    ensures { result.0 ≡ take 32 (drop (32 * before) digests.now) }
+    requires { digest_width * before + digest_width ≤ length digests.now }
+    ensures { result.0 ≡ take digest_width (drop (digest_width * before) digests.now) }
 {
-    let (_, rest) = digests.split_at(32 * before);
-    let (bytes, _) = rest.split_at(32);
-    let mut digest = [0; 32];
-    digest.copy_from_slice(bytes);
-    Digest(digest)
+    let start = DIGEST_BYTES * before;
+    Digest::from_slice(&digests[start..start + DIGEST_BYTES])
 }

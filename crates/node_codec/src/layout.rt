@@ -1,4 +1,5 @@
 ghost use Rattle.std.specs.Prelude.{◌≡◌, ◌*◌, ◌≤◌, length, IfOk};
+ghost use Rattle.byte_model.specs.Node.{digest_width};
 ghost use Rattle.record_model.specs.Fields.{bytes_at, digests_at};
 ghost use Rattle.record_model.specs.Records.{value_at, children_at, leaf_at, branch_at, branch_with_value_at, extension_at, kind_at, layout_at, layout_of};
 ghost use Rattle.base_core.specs.Reading.{Answers, Follows};
@@ -8,10 +9,7 @@ ghost use Rattle.node_codec.specs.Layouts.{layout_viewed, children_pair};
 use crate::kids_view::{KidsView, bit_count};
 use crate::ordinals::{BRANCH, BRANCH_WITH_VALUE, EXTENSION, LEAF};
 use crate::value_ref::ValueRef;
-use base_core::{BorshError, Digest, Reader};
-
-/// Bytes of a digest.
-const DIGEST_BYTES: u64 = 32;
+use base_core::{BorshError, DIGEST_BYTES, Digest, Reader};
 
 /// The fields of a record, before anything is asked of its path and its shape.
 #[derive(Debug, Drop)]
@@ -118,12 +116,13 @@ fn read_children<'a>(reader: &mut Reader<'a>) -> Result<KidsView<'a>, BorshError
 fn read_digests<'a>(reader: &mut Reader<'a>, count: u64) -> Result<&'a [u8], BorshError>
     requires { count ≤ 16 }
     ensures read { Follows (λ digests. digests.now) result reader.old reader.new (digests_at count) }
-    ensures length { IfOk result (λ digests. length digests.now ≡ 32 * count) }
+    ensures length { IfOk result (λ digests. length digests.now ≡ digest_width * count) }
 {
-    let whole = reader.left() / DIGEST_BYTES;
+    let width = DIGEST_BYTES as u64;
+    let whole = reader.left() / width;
     if whole < count {
-        let at = reader.place() + whole * DIGEST_BYTES;
+        let at = reader.place() + whole * width;
         return Err(BorshError::Short { at });
     }
-    reader.take(count * DIGEST_BYTES)
+    reader.take(count * width)
 }

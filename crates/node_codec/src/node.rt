@@ -2,7 +2,7 @@ use crate::kids::Kids;
 use crate::value_ref::ValueRef;
 use base_core::{Digest, Text};
 
-/// A node of a trie. A path is a list of nibbles, one to a byte.
+/// A node of a trie. Its path has one nibble to a byte.
 #[derive(Debug, Drop)]
 pub enum Node {
     /// The end of one key: the nibbles that are left of it.

@@ -4,11 +4,8 @@ ghost use Rattle.node_codec.specs.Views.{node_viewed};
 
 use crate::kids_view::KidsView;
 use crate::value_ref::ValueRef;
-use base_core::Digest;
+use base_core::{Digest, LONGEST_VALUE};
 use nibble_keys::Packed;
-
-/// The longest value, in bytes.
-const LONGEST_VALUE: u32 = 4194304;
 
 /// A node of a trie, read where its record stands. It borrows the record.
 #[derive(Debug, Drop)]
@@ -37,12 +34,12 @@ impl NodeView<'_> {
         ensures { result ≡ has_shape (node_viewed self.now) }
     {
         match self {
-            NodeView::Leaf { value, .. } => value.length <= LONGEST_VALUE,
+            NodeView::Leaf { value, .. } => value.length as u64 <= LONGEST_VALUE,
             NodeView::Branch { value: None, kids } => kids.count() >= 2,
             NodeView::Branch {
                 value: Some(value),
                 kids,
-            } => value.length <= LONGEST_VALUE && kids.count() >= 1,
+            } => value.length as u64 <= LONGEST_VALUE && kids.count() >= 1,
             NodeView::Extension { path, .. } => path.len() != 0,
         }
     }

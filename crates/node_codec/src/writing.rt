@@ -11,15 +11,12 @@ use crate::kids::Kids;
 use crate::node::Node;
 use crate::ordinals::{BRANCH, BRANCH_WITH_VALUE, EXTENSION, LEAF};
 use crate::value_ref::ValueRef;
-use base_core::{Digest, Text, Writer};
+use base_core::{DIGEST_BYTES, Digest, Text, Writer};
 use nibble_keys::{packed_len, put_packed};
 use std::alloc::{AllocError, Global};
 
-/// Bytes of a digest.
-const DIGEST_BYTES: usize = 32;
-
 /// Bytes of a value's length and digest.
-const VALUE_BYTES: usize = 36;
+const VALUE_BYTES: usize = 4 + DIGEST_BYTES;
 
 /// Bytes of a usage.
 const USAGE_BYTES: usize = 8;

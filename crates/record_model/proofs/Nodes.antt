@@ -163,13 +163,16 @@ record_in-found bytes small = go (layout_of bytes) refl (layout_found bytes smal
   where
     go : (read : Result (Layout × ℕ) FrameFault) → layout_of bytes ≡ read → Gives read (IsLayout bytes) → Gives (record_in bytes) (λ r. IsRecord r.0 r.1 bytes × HasNibblesOnly r.0)
     go (Err fault) e h = rw e (record { given = tt })
-    go (Ok layout) e h = let layout_is = h.given in rw e (and_then (node_found layout.0 layout_is.fits layout_is.path) (λ n k. gives _ (record {
-      spelling = layout_is.spelling ∙ k.spelling layout.1;
-      fields = k.fields;
-      path = k.path;
-      usage_fits = layout_is.usage_fits;
-      shape = k.shape;
-    }, k.nibbles)))
+    go (Ok layout) e h = let layout_is = h.given in rw e (and_then (node_found layout.0 layout_is.fits layout_is.path) (λ n k. gives _ (
+      record {
+        spelling = layout_is.spelling ∙ k.spelling layout.1;
+        fields = k.fields;
+        path = k.path;
+        usage_fits = layout_is.usage_fits;
+        shape = k.shape;
+      },
+      k.nibbles,
+    )))
 
 pub record_in-only : (n : Node) (usage : ℕ) (bytes : List ℕ) → IsRecord n usage bytes → IsOkAnd (record_in bytes) (λ r. SameNode r.0 n × (r.1 ≡ usage) × HasNibblesOnly r.0)
 unfolding record_in

@@ -3,7 +3,7 @@ use Rattle.std.specs.Prelude.{ℕ, zero, suc, ◌+◌, ◌==◌, nat_lt, List, [
 use Rattle.std.specs.Int.{Width, w32, byte_len, from_le_bytes}
 use Rattle.byte_model.specs.Node.{digest_width}
 
--- What is wrong with a layout, and at which byte, counted from 0: a fixed field or the body of a vector that begins there runs past the end; bytes are left over from there on; the byte there is no ordinal.
+-- The first thing that is wrong with a layout, and its offset. `short`: the bytes end within a field, or within the body of a vector behind its count, and the offset is where that begins. `rest`: a byte follows the last field. `ordinal`: a byte names no kind of node.
 pub data FrameFault : Type 0 where
   short : (at : ℕ) → FrameFault
   rest : (at : ℕ) → FrameFault

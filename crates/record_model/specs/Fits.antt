@@ -1,4 +1,4 @@
--- What fits at a place of a trie. A key has at most 4,228 nibbles, two for each byte, and below an extension stands a branch.
+-- What a node of a state's trie keeps to where it stands, by its depth in nibbles and by whether an extension stands above it.
 use Rattle.std.specs.Prelude.{ℕ, ◌+◌, ◌%◌, ◌==◌, ◌&&◌, not, nat_le, nat_lt, Bool, length, None, Some}
 use Rattle.byte_model.specs.PackedPath.{longest_path}
 use Rattle.byte_model.specs.Node.{Node, leaf, branch, extension}

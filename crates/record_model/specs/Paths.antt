@@ -2,13 +2,13 @@
 use Rattle.std.specs.Prelude.{ℕ, ◌/◌, ◌%◌, ◌==◌, ◌&&◌, not, Bool, List, [], ◌∷◌, drop, Result, Ok, Err, if◌then◌else◌}
 use Rattle.byte_model.specs.Nibbles.{nibbles}
 
--- What is wrong with a packed path, in the order in which it is looked for: there is no byte; the first byte has a bit that is no flag; the number of nibbles is even, and the half of the first byte that would hold the odd one is not 0.
+-- The first test that a packed path fails: it has a first byte; the two highest bits of that byte are clear; its low half is clear, unless a nibble stands there.
 pub data PathFault : Type 0 where
   empty : PathFault
   flag : PathFault
   pad : PathFault
 
--- whether the first byte says that the number of nibbles is odd, and that the path ends at a leaf
+-- the two flags of the first byte: an odd number of nibbles, and a leaf's path
 abbrev pub is_odd : ℕ → Bool
 is_odd first = first / 0x10 % 2 == 1
 

@@ -40,13 +40,13 @@ pub fn shapes_are_tested()
     ensures { (node : Node) → Decides (has_shape node) (IsShaped node) }
 {}
 
-/// Reading a record accepts exactly the spellings of nodes. A branch that is read has no child but those of the sixteen nibbles.
+/// Reading a record accepts exactly the spellings of nodes of good shape. A branch that is read has no child but those of the sixteen nibbles.
 pub fn records_are_read_exactly()
     ensures found { (bytes : List ℕ) → AreBytes bytes → IfOk (record_in bytes) (λ r. IsRecord r.0 r.1 bytes × HasNibblesOnly r.0) }
     ensures only { (node : Node) (usage : ℕ) (bytes : List ℕ) → IsRecord node usage bytes → IsOkAnd (record_in bytes) (λ r. SameNode r.0 node × (r.1 ≡ usage) × HasNibblesOnly r.0) }
 {}
 
-/// A spelling belongs to one node and usage, and none is the prefix of another. Of spellings it is said whatever shape the nodes have.
+/// Where equal bytes begin with a record on both sides, the two records are one, of one node and usage. So a reader needs no length to know where a record ends. Of spellings it is said whatever shape the nodes have.
 pub fn no_record_begins_another()
     ensures records { (m n : Node) (usage other : ℕ) (one two more rest : List ℕ) → IsRecord m usage one → IsRecord n other two → one ++ more ≡ two ++ rest → SameNode m n × (usage ≡ other) × (one ≡ two) }
     ensures spellings { (m n : Node) (usage other : ℕ) (more rest : List ℕ) → FitsRecord m → HasShortPath m → usage < 2 ^ 64 → FitsRecord n → HasShortPath n → other < 2 ^ 64 → spelled m usage ++ more ≡ spelled n other ++ rest → SameNode m n × (usage ≡ other) × (more ≡ rest) }

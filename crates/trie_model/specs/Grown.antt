@@ -8,7 +8,7 @@ use Rattle.trie_model.specs.Tree.{Tree, nothing, leaf, branch, extension}
 abbrev pub under : List ℕ → List Row → List Row
 under prefix rows = map (λ row. (prefix ++ row.0, row.1)) rows
 
--- A path grows, a branch becomes the child of an extension, and no nibbles change nothing.
+-- Nibbles lengthen the path of a leaf or an extension at the top. A branch gets an extension with them above it, unless there are none.
 unfoldable pub grown : List ℕ → Tree → Tree
 grown prefix nothing = nothing
 grown prefix (leaf path value) = leaf (prefix ++ path) value

@@ -10,7 +10,7 @@ use Rattle.trie_model.specs.State.{State, rows_of}
 use Rattle.trie_model.specs.Tree.{Tree, nothing, leaf, branch, extension, below, tree_of}
 use Rattle.trie_model.specs.Texts.{usage, text, places}
 
--- the root of the empty state, and no text's name
+-- what stands as the root where there is no text
 abbrev pub zero_digest : List ℕ
 zero_digest = replicate digest_width 0
 
@@ -49,7 +49,7 @@ root state = root_of (subtree_at state [])
 abbrev pub total : State → ℕ
 total state = usage (subtree_at state [])
 
--- A table from digest to text holds a state: each text of the state stands under its own digest, and none of these digests is zero.
+-- A table from digest to text holds a state where it gives each of the state's texts for the text's digest, and no such digest is that of an empty state's root.
 abbrev pub Table : Type 0
 Table = FinMap (slice_cmp nat_cmp) (List ℕ)
 
@@ -57,7 +57,7 @@ pub record Holds (table : Table) (state : State) : Type 0 where
   pub found : AllByRecursion (λ t. get table (sha256 t) ≡ Some t) (texts_of state)
   pub nonzero : AllByRecursion (λ t. sha256 t ≢ zero_digest) (texts_of state)
 
--- No two different texts of the list share a digest, and none has the zero digest.
+-- Of the texts in the list, those with equal digests are equal, and no digest is that of an empty state's root.
 pub record NoClash (texts : List (List ℕ)) : Type 0 where
   pub apart : (a b : List ℕ) → Contains texts a → Contains texts b → sha256 a ≡ sha256 b → a ≡ b
   pub nonzero : (a : List ℕ) → Contains texts a → sha256 a ≢ zero_digest

@@ -1,4 +1,4 @@
--- The texts of a trie: the record of each of its nodes, in which a child is named by the SHA-256 of its text.
+-- The texts of a trie: the records of its nodes from the leaves up, since each holds the digests of those below it.
 -- What stands in a subtree's texts depends on the rests and values below its place alone.
 use Rattle.std.specs.Prelude.{ℕ, ◌+◌, List, [], ◌∷◌, ◌++◌, length, map, true, false, Option, None, Some}
 use Rattle.std.specs.Option.{option_map}
@@ -58,7 +58,7 @@ node_of (extension path child) = Some (node.extension path (sha256 (text child))
 abbrev pub behind : List ℕ → List (List ℕ) → List (List ℕ)
 behind prefix paths = map (λ path. prefix ++ path) paths
 
--- The places of a subtree, by the paths that lead to them, in the order of paths, a prefix first.
+-- The places of a subtree: the paths that lead to its nodes, by rising path.
 unfoldable pub places : Tree → List (List ℕ)
 places nothing = []
 places (leaf path value) = [] ∷ []

@@ -1,4 +1,4 @@
--- The canonical trie of a list of rows (after nearcore; the exact rule is this project's).
+-- The one trie of a list of rows (modelled on nearcore's, with a rule of this project's own).
 -- Three cases: one row is a leaf; several rows whose rests share a prefix are an extension by the longest such prefix; other rows are a branch.
 use Rattle.std.specs.Prelude.{ℕ, zero, suc, ◌==◌, max, List, [], ◌∷◌, length, Option, None, Some, if◌then◌else◌}
 use Rattle.std.specs.List.{filter_map}
