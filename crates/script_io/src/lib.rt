@@ -1,5 +1,5 @@
-//! Input and output: sources and sinks of bytes with a count of their faults, the lines and command
-//! words of the script language, and the printed forms of numbers and byte strings.
+//! Input and output: sources and sinks of bytes that count their faults, lines off a source, what
+//! the lines of a script and the command words ask for, and numbers and byte strings as printed.
 #![tactic(auto)]
 
 mod buffer;

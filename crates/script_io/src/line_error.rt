@@ -1,18 +1,16 @@
 use thiserror::Error;
 
-/// Why a line was not handed out.
+/// Why a line was not handed out. The first two are told by the input alone.
 #[derive(Debug, Drop, Error)]
 pub enum LineError {
-    /// The line has more than 8,400,000 bytes before its line feed.
+    /// More bytes stand before the next line feed than a line may have, which is 8,400,000.
     #[error("the line is too long")]
     Long,
-    /// Byte number 2^30 + 1 of the input stands in the line, its line feed counted.
+    /// The line, its line feed included, goes on behind the 2^30 bytes that an input may have.
     #[error("the input is too long")]
     Past,
-    /// The source failed.
     #[error("the source failed")]
     ReadFault,
-    /// There was no memory.
     #[error("out of memory")]
     NoMemory,
 }

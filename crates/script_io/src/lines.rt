@@ -12,7 +12,7 @@ use std::alloc::Global;
 use std::marker::Model;
 
 /// Takes the lines of an input off a source, one after another, in whatever pieces the source gives
-/// its bytes. A line ends with a line feed, and the last line may lack it.
+/// its bytes.
 #[derive(Debug, Drop)]
 pub struct Lines {
     window: Window,
@@ -50,9 +50,8 @@ impl Lines {
         }
     }
 
-    /// The next line without its line feed, or nothing at the end of the input. A line that is too
-    /// long, or runs past what an input may have, is refused. After any refusal the line is still
-    /// there, and is asked for again by the next call.
+    /// Hands out the next line, without the line feed that ends it, or nothing where the input has
+    /// ended. A refusal takes no byte: the next call asks for the same line again.
     pub fn next<S: Source>(&mut self, source: &mut S) -> Result<Option<&[u8]>, LineError>
         ensures counted { S.faults source.new ≡ faults_after (ended_by result) (S.faults source.old) }
         ensures* after { sem 𝓛 (Rests the_row self.entry (λ new. IsAsked self.old new (S.left source.old) (S.left source.new) result)) }
@@ -71,7 +70,8 @@ impl Lines {
         }
     }
 
-    /// The number of the line last asked for, from 1. It takes no memory.
+    /// Which line was asked for last. The first is line 1, and 0 says that none was. It takes no
+    /// memory.
     pub fn number(&self) -> u64
         ensures { result ≡ self.now.number }
     {

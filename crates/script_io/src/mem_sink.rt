@@ -36,9 +36,9 @@ impl Model for MemSink {
 }
 
 impl MemSink {
-    /// An empty sink. It holds at most `most` bytes, for which it takes the memory now, and answers a
-    /// fault past them. A write takes at most `piece` bytes. Writes are numbered from 1, and those
-    /// whose numbers are in `fails` answer a fault.
+    /// An empty sink with room for `most` bytes, whose memory is taken now. It takes no more than
+    /// `piece` of them at a write. A write into a full sink fails, and so do those whose numbers are in
+    /// `fails`, the first write being 1.
     pub fn new(alloc: Global, most: u64, piece: u64, fails: &[u64]) -> Result<MemSink, AllocError>
         requires { 1 ≤ piece }
         ensures { IfOk result (λ sink. sink ≡ record { bytes = []; most = most; piece = piece; failing = record { fails = fails.now; calls = 0; faults = 0 } }) }

@@ -35,8 +35,8 @@ impl Model for MemSource {
 }
 
 impl MemSource {
-    /// A source of these bytes. A read gives at most `piece` of them. Reads are numbered from 1, and
-    /// those whose numbers are in `fails` answer a fault.
+    /// A source of these bytes, no more than `piece` of them at a read. `fails` has the numbers of the
+    /// reads that will fail, the first read being 1.
     pub fn new(
         alloc: Global,
         bytes: &[u8],

@@ -8,8 +8,8 @@ ghost use Rattle.script_io.specs.Streams.{Appends};
 use crate::sink::Sink;
 use base_core::Fault;
 
-/// Writes all of the bytes, in as many writes as the sink wants. After a fault a prefix of them was
-/// written. It takes no memory.
+/// Hands all of the bytes to a sink, as many at a time as it takes. A sink that fails has taken a
+/// prefix of them. It takes no memory.
 pub fn put<K: Sink>(sink: &mut K, bytes: &[u8]) -> Result<(), Fault>
     ensures written { IfSome (K.written sink.old) (λ before. Appends before (K.written sink.new) bytes.now result) }
     ensures counted { IsCounted (K.faults sink.old) (K.faults sink.new) result }
@@ -22,7 +22,7 @@ pub fn put<K: Sink>(sink: &mut K, bytes: &[u8]) -> Result<(), Fault>
     Ok(())
 }
 
-/// Writes a number in decimal, without leading zeros. It takes no memory.
+/// Writes a number in decimal, without leading zeros, as `put` does. It takes no memory.
 pub fn put_number<K: Sink>(sink: &mut K, n: u64) -> Result<(), Fault>
     ensures written { IfSome (K.written sink.old) (λ before. Appends before (K.written sink.new) (decimal n) result) }
     ensures counted { IsCounted (K.faults sink.old) (K.faults sink.new) result }
@@ -32,7 +32,8 @@ pub fn put_number<K: Sink>(sink: &mut K, n: u64) -> Result<(), Fault>
     put(sink, &digits[start..])
 }
 
-/// Writes bytes as lower case hexadecimal digits, and no bytes as `-`. It takes no memory.
+/// Writes two small hexadecimal digits for each byte, or `-` where there is none, as `put` does. It
+/// takes no memory.
 pub fn put_hex<K: Sink>(sink: &mut K, bytes: &[u8]) -> Result<(), Fault>
     ensures written { IfSome (K.written sink.old) (λ before. Appends before (K.written sink.new) (hex_text bytes.now) result) }
     ensures counted { IsCounted (K.faults sink.old) (K.faults sink.new) result }

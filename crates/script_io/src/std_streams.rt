@@ -9,8 +9,8 @@ use crate::source::Source;
 use base_core::Fault;
 use std::io::{Read, Write};
 
-/// A source over a reader of std, such as standard input. It tells nothing of bytes. Each error of
-/// the reader is a fault.
+/// A source over a reader of std, such as standard input. What it has left is not told. Whatever
+/// error the reader answers is a fault.
 #[derive(Drop)]
 pub struct StdSource<R: Read> {
     inner: R,
@@ -48,8 +48,9 @@ impl<R: Read> Source for StdSource<R> {
     }
 }
 
-/// A sink over a writer of std, such as standard output. It tells nothing of bytes. Each error of
-/// the writer, a write that takes nothing of a piece, and a flush that fails are faults.
+/// A sink over a writer of std, such as standard output, flushed at each write. What was written is
+/// not told. An error of the writer, of its flush too, is a fault, and so is a piece of which it takes
+/// nothing.
 #[derive(Drop)]
 pub struct StdSink<W: Write> {
     inner: W,

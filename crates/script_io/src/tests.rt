@@ -4,7 +4,7 @@ use super::*;
 use base_core::{Fault, Text};
 use std::alloc::{AllocError, Global};
 use std::io;
-use std::io::{ErrorKind, Read};
+use std::io::{ErrorKind, Read, Write};
 use std::process::Abort;
 use std::test::Fail;
 
@@ -40,13 +40,10 @@ fn lines_in_any_pieces(rt: HostRuntime) -> Result<(), Fail> {
         (b"", &[]),
         (b"\n", &[b""]),
         (b"\n\n", &[b"", b""]),
+        (b"# one\n\nset 61 -\n", &[b"# one", b"", b"set 61 -"]),
         (
-            b"# a comment\n\nset 61 -\n",
-            &[b"# a comment", b"", b"set 61 -"],
-        ),
-        (
-            b"the last line feed\nis missing",
-            &[b"the last line feed", b"is missing"],
+            b"no line\nfeed at the end",
+            &[b"no line", b"feed at the end"],
         ),
         (b"one\r\ntwo\r", &[b"one\r", b"two\r"]),
         (b"seven_b\neightby\n\0", &[b"seven_b", b"eightby", b"\0"]),
@@ -109,23 +106,17 @@ fn expect_set(
 }
 
 #[test]
-fn set_lines(rt: HostRuntime) -> Result<(), Fail> {
+fn events(rt: HostRuntime) -> Result<(), Fail> {
     let alloc = rt.alloc();
-    let table: [(&[u8], &[u8], &[u8]); 4] = [
+    let pairs: [(&[u8], &[u8], &[u8]); 4] = [
         (b"set 61 6869", b"a", b"hi"),
         (b"set - -", b"", b""),
         (b"set 00 -", b"\0", b""),
         (b"set aB fFFf", b"\xab", b"\xff\xff"),
     ];
-    for (line, key, value) in table {
+    for (line, key, value) in pairs {
         expect_set(&rt, alloc, line, key, value)?;
     }
-    Ok(())
-}
-
-#[test]
-fn other_lines(rt: HostRuntime) -> Result<(), Fail> {
-    let alloc = rt.alloc();
     for line in [b"".as_slice(), b"#", b"# set  61", b"#\xff"] {
         assert!(rt;
             matches!(read_event(alloc, line), Ok(Event::Nothing)),
@@ -168,27 +159,34 @@ fn set_line(alloc: Global, key: &[u8], value: &[u8]) -> Result<Buffer, Fault> {
     Ok(line)
 }
 
-#[test]
-fn longest_key(rt: HostRuntime) -> Result<(), Fail> {
-    let alloc = rt.alloc();
-    let key = copies(alloc, 7, 2114)?;
-    let line = set_line(alloc, key.as_slice(), b"")?;
-    expect_set(&rt, alloc, line.bytes(), key.as_slice(), b"")?;
-    let key = copies(alloc, 7, 2115)?;
-    let line = set_line(alloc, key.as_slice(), b"")?;
+fn expect_lengths(
+    rt: &impl Abort,
+    alloc: Global,
+    key: usize,
+    value: usize,
+    fits: bool,
+) -> Result<(), Fail> {
+    let key = copies(alloc, 7, key)?;
+    let value = copies(alloc, 7, value)?;
+    let line = set_line(alloc, key.as_slice(), value.as_slice())?;
+    if fits {
+        return expect_set(rt, alloc, line.bytes(), key.as_slice(), value.as_slice());
+    }
     assert!(rt; matches!(read_event(alloc, line.bytes()), Err(EventError::Bad)));
     Ok(())
 }
 
 #[test]
-fn longest_value(rt: HostRuntime) -> Result<(), Fail> {
+fn longest_key_and_value(rt: HostRuntime) -> Result<(), Fail> {
     let alloc = rt.alloc();
-    let value = copies(alloc, 7, 4194304)?;
-    let line = set_line(alloc, b"a", value.as_slice())?;
-    expect_set(&rt, alloc, line.bytes(), b"a", value.as_slice())?;
-    let value = copies(alloc, 7, 4194305)?;
-    let line = set_line(alloc, b"a", value.as_slice())?;
-    assert!(rt; matches!(read_event(alloc, line.bytes()), Err(EventError::Bad)));
+    for (key, value, fits) in [
+        (2114, 0, true),
+        (2115, 0, false),
+        (1, 4194304, true),
+        (1, 4194305, false),
+    ] {
+        expect_lengths(&rt, alloc, key, value, fits)?;
+    }
     Ok(())
 }
 
@@ -245,29 +243,22 @@ fn writes_in_pieces(rt: HostRuntime) -> Result<(), Fail> {
     Ok(())
 }
 
+/// Numbers, and bytes of which the last are more than are spelled at a time.
 #[test]
-fn numbers(rt: HostRuntime) -> Result<(), Fail> {
-    let mut buffer = Buffer::new(rt.alloc());
+fn printed_forms(rt: HostRuntime) -> Result<(), Fail> {
+    let alloc = rt.alloc();
+    let mut buffer = Buffer::new(alloc);
     for n in [0, 9, 10, 100, u64::MAX] {
         put_number(&mut buffer, n)?;
         put(&mut buffer, b" ")?;
     }
-    assert_eq!(rt;
-        buffer.bytes(),
-        b"0 9 10 100 18446744073709551615 ".as_slice()
-    );
-    Ok(())
-}
-
-#[test]
-fn hexadecimal_digits(rt: HostRuntime) -> Result<(), Fail> {
-    let alloc = rt.alloc();
-    let mut buffer = Buffer::new(alloc);
     put_hex(&mut buffer, b"")?;
     put_hex(&mut buffer, b"\x00\xff\x1a")?;
-    assert_eq!(rt; buffer.bytes(), b"-00ff1a".as_slice());
+    assert_eq!(rt;
+        buffer.bytes(),
+        b"0 9 10 100 18446744073709551615 -00ff1a".as_slice()
+    );
 
-    // More bytes than are spelled at a time.
     let mut bytes = copies(alloc, 0xa5, 1024)?;
     bytes.push(0x0f)?;
     let mut sink = MemSink::new(alloc, 2050, 100, &[])?;
@@ -278,12 +269,22 @@ fn hexadecimal_digits(rt: HostRuntime) -> Result<(), Fail> {
     Ok(())
 }
 
-/// A reader whose every read fails.
+/// A stream whose reads and flushes fail. It takes whatever is written.
 #[derive(Drop)]
 struct Broken;
 
 impl Read for Broken {
     fn read(&mut self, _: &mut [u8]) -> io::Result<usize> {
+        Err(io::Error::from(ErrorKind::Other))
+    }
+}
+
+impl Write for Broken {
+    fn write(&mut self, piece: &[u8]) -> io::Result<usize> {
+        Ok(piece.len())
+    }
+
+    fn flush(&mut self) -> io::Result<()> {
         Err(io::Error::from(ErrorKind::Other))
     }
 }
@@ -304,5 +305,7 @@ fn streams_of_std(rt: HostRuntime) -> Result<(), Fail> {
     put(&mut sink, b"ab")?;
     assert!(rt; put(&mut sink, b"cd").is_err(), "no room");
     assert_eq!(rt; bytes, *b"abc");
+    let mut sink = StdSink::new(Broken);
+    assert!(rt; put(&mut sink, b"ab").is_err(), "not flushed");
     Ok(())
 }

@@ -1,4 +1,4 @@
--- The lines of a script. A line ends with a line feed, which is no part of it; the last line may lack it. Words are separated by exactly one space, and a carriage return is no part of any line.
+-- A script, line by line. Line feeds end lines and are not counted into them, and what comes behind the last of them is a line too where it has a byte. Between two words stands one space, and spaces stand nowhere else. No line holds a carriage return. The language is this project's own.
 use Rattle.std.specs.Prelude.{ℕ, ◌+◌, ◌^◌, ◌==◌, ◌&&◌, nat_le, nat_lt, List, [], ◌∷◌, length, codes, Bool, Option, None, Some, if◌then◌else◌}
 use Rattle.std.specs.List.{list_any, slice_split, position_or_len, before_first, after_first}
 use Rattle.std.specs.Str.{bytes_eq}
@@ -67,7 +67,7 @@ pub data LineFault : Type 0 where
   long : LineFault
   past : LineFault
 
--- The line begins behind so many bytes of the input, and has so many bytes and so many of a line feed. It is too long, or byte number 2 ^ 30 + 1 of the input stands in it. Where both hold, the earlier byte decides.
+-- What is wrong with a line that begins behind so many bytes of the input, its line feed told apart from its length. It may have more bytes than a line may, or go on behind the last byte that an input may have. Of the two the one that is met first counts.
 unfoldable pub line_fault : (before length feed : ℕ) → Option LineFault
 line_fault before length feed =
     if nat_lt longest_line length && nat_le (before + longest_line) longest_input then Some long

@@ -1,4 +1,4 @@
--- The small spellings: byte strings in hexadecimal, and what keys and values may be. All of them are this project's own.
+-- How byte strings are written in scripts and replies: two digits for each byte. Which of them are keys and values. All of it is this project's own.
 use Rattle.std.specs.Prelude.{ℕ, ◌==◌, nat_le, List, [], length, codes, Option, None, Some, if◌then◌else◌}
 use Rattle.std.specs.Result.{result_ok}
 use Rattle.std.specs.Str.{bytes_eq}
@@ -10,11 +10,11 @@ use Rattle.trie_model.specs.State.{longest_key}
 abbrev pub no_bytes : List ℕ
 no_bytes = codes "-"
 
--- The bytes of a hexadecimal text: an even number of digits in either case, at least two; or `-`.
+-- The bytes that a text writes: those of its pairs of digits, upper or lower case, where it has a pair and nothing else, or none where it is `-`.
 unfoldable pub hex_bytes : List ℕ → Option (List ℕ)
 hex_bytes text = if bytes_eq text no_bytes then Some [] else if length text == 0 then None else result_ok (decode_of text)
 
--- the one text that is written for some bytes, in lower case
+-- the text by which some bytes are written, with small letters
 unfoldable pub hex_text : List ℕ → List ℕ
 hex_text bytes = if length bytes == 0 then no_bytes else encode_lower bytes
 
