@@ -10,6 +10,6 @@ fault_of Flag = flag
 fault_of Pad = pad
 
 -- a call answers a value, seen by view, or what is wrong
-abbrev pub Gives : {X Y : Type 0} → (X → Y) → Result X PackError → Result Y PathFault → Type 0
-Gives view (Ok x) read = read ≡ Ok (view x)
-Gives view (Err e) read = read ≡ Err (fault_of e)
+abbrev pub Answers : {X Y : Type 0} → (X → Y) → Result X PackError → Result Y PathFault → Type 0
+Answers view (Ok x) read = read ≡ Ok (view x)
+Answers view (Err e) read = read ≡ Err (fault_of e)

@@ -2,7 +2,7 @@ ghost use Rattle.std.specs.Prelude.{◌≡◌, ◌<◌, ◌≤◌, Bool, List, �
 ghost use Rattle.byte_model.specs.Nibbles.{AreNibbles};
 ghost use Rattle.byte_model.specs.PackedPath.{packed};
 ghost use Rattle.record_model.specs.Paths.{path_in};
-ghost use Rattle.nibble_keys.specs.Unpacking.{Gives};
+ghost use Rattle.nibble_keys.specs.Unpacking.{Answers};
 
 use crate::flags::{LEAF_FLAG, ODD_FLAG};
 use crate::nibbles::Nibbles;
@@ -30,7 +30,7 @@ impl<'a> Packed<'a> {
     /// Reads a packed path, and whether it ends at a leaf.
     #[tactic(auto, unfolding(record_model::specs::Paths::path_in))]
     pub fn read(bytes: &'a [u8]) -> Result<(Packed<'a>, bool), PackError>
-        ensures { Gives (λ p. (p.0, p.1)) result (path_in bytes.now) }
+        ensures { Answers (λ p. (p.0, p.1)) result (path_in bytes.now) }
     {
         let Some(&first) = bytes.first() else {
             return Err(PackError::Empty);

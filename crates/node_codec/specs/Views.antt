@@ -23,6 +23,6 @@ fault_of (Path e) = pack (path.fault_of e)
 fault_of Shape = shape
 
 -- a call answers a value, seen by view, or what is wrong
-abbrev pub Gives : {X Y : Type 0} → (X → Y) → Result X NodeError → Result Y RecordFault → Type 0
-Gives view (Ok x) read = read ≡ Ok (view x)
-Gives view (Err e) read = read ≡ Err (fault_of e)
+abbrev pub Answers : {X Y : Type 0} → (X → Y) → Result X NodeError → Result Y RecordFault → Type 0
+Answers view (Ok x) read = read ≡ Ok (view x)
+Answers view (Err e) read = read ≡ Err (fault_of e)

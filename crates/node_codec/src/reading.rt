@@ -4,7 +4,7 @@ ghost use Rattle.byte_model.specs.Node.{Node};
 ghost use Rattle.byte_model.specs.Laws.{SameNode};
 ghost use Rattle.record_model.specs.Records.{IsRecord, record_in, node_in, suited};
 ghost use Rattle.node_codec.specs.Layouts.{layout_viewed};
-ghost use Rattle.node_codec.specs.Views.{Gives, node_viewed};
+ghost use Rattle.node_codec.specs.Views.{Answers, node_viewed};
 
 use crate::layout::{Layout, read_layout};
 use crate::node_error::NodeError;
@@ -19,14 +19,14 @@ pub fn read_node(bytes: &[u8]) -> Result<(NodeView<'_>, u64), NodeError>
     // What is spelled so is read.
     ensures only { (node : Node) (usage : ℕ) → IsRecord node usage bytes.now → IsOkAnd result (λ r. SameNode (node_viewed r.0) node × (r.1 ≡ usage)) }
     // What is wrong first.
-    ensures exact { Gives (λ r. (node_viewed r.0, r.1)) result (record_in bytes.now) }
+    ensures exact { Answers (λ r. (node_viewed r.0, r.1)) result (record_in bytes.now) }
 {
     read_record(bytes)
 }
 
 #[tactic(auto, unfolding(record_model::specs::Records::record_in))]
 fn read_record(bytes: &[u8]) -> Result<(NodeView<'_>, u64), NodeError>
-    ensures read { Gives (λ r. (node_viewed r.0, r.1)) result (record_in bytes.now) }
+    ensures read { Answers (λ r. (node_viewed r.0, r.1)) result (record_in bytes.now) }
     ensures bytes { AreBytes bytes.now }
 {
     match read_layout(bytes) {
@@ -41,7 +41,7 @@ fn read_record(bytes: &[u8]) -> Result<(NodeView<'_>, u64), NodeError>
 /// The node of a record's fields.
 #[tactic(auto, unfolding(record_model::specs::Records::node_in, record_model::specs::Records::shaped))]
 fn read_fields(layout: Layout<'_>) -> Result<NodeView<'_>, NodeError>
-    ensures { Gives node_viewed result (node_in (layout_viewed layout.entry)) }
+    ensures { Answers node_viewed result (node_in (layout_viewed layout.entry)) }
 {
     let node = match layout {
         Layout::Leaf { packed, value } => NodeView::Leaf {
@@ -64,7 +64,7 @@ fn read_fields(layout: Layout<'_>) -> Result<NodeView<'_>, NodeError>
 /// A path whose leaf flag is as the kind of the node wants it.
 #[tactic(auto, unfolding(record_model::specs::Records::suited))]
 fn read_path(packed: &[u8], ends: bool) -> Result<Packed<'_>, NodeError>
-    ensures { Gives (λ path. path) result (suited ends packed.now) }
+    ensures { Answers (λ path. path) result (suited ends packed.now) }
 {
     match Packed::read(packed) {
         Err(error) => Err(NodeError::Path(error)),

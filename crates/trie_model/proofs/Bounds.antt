@@ -5,7 +5,7 @@ use Rattle.std.proofs.lemmas.Bool.{cases_eq}
 use Rattle.std.proofs.lemmas.Bool.Decides.{nat_tests}
 use Rattle.byte_model.specs.Below.{sum_below}
 use Rattle.byte_model.proofs.Below.{sum_below-agree, sum_below-le, sum_below-zero, sum_below-add_mul}
-use Rattle.byte_model.specs.PackedPath.{packed}
+use Rattle.byte_model.specs.PackedPath.{packed, longest_path}
 use Rattle.byte_model.specs.Node.{cost_of}
 use Rattle.byte_model.proofs.Paths.{length-packed}
 use Rattle.trie_model.specs.State.{State, Row, rows_of, IsState, IsPair}
@@ -105,7 +105,7 @@ abbrev node_cost : ℕ
 node_cost = 4280
 
 abbrev IsBounded : List Row → Type 0
-IsBounded rows = longest rows ≤ 4228 → usage (tree_of rows) ≤ weight_of value_cost rows + weight_of one rows * (needed rows * node_cost)
+IsBounded rows = longest rows ≤ longest_path → usage (tree_of rows) ≤ weight_of value_cost rows + weight_of one rows * (needed rows * node_cost)
 
 longest-below : (prefix : List ℕ) (rows : List Row) → longest (below prefix rows) ≤ longest rows
 unfolding longest below
@@ -117,10 +117,10 @@ longest-below prefix (row ∷ rows) =
       | Some rest ↦ λ e. let shorter = length-rest_behind prefix row.0 rest e in omega arith
     ] refl
 
-length-packed_le : (ends : Bool) (path : List ℕ) → length path ≤ 4228 → 50 + 2 * length (packed ends path) ≤ node_cost
+length-packed_le : (ends : Bool) (path : List ℕ) → length path ≤ longest_path → 50 + 2 * length (packed ends path) ≤ node_cost
 length-packed_le ends path h = let n = length-packed ends path in omega arith
 
-prefix_length : (prefix : List ℕ) (row : Row) (rows : List Row) → HasPrefix prefix row.0 → longest (row ∷ rows) ≤ 4228 → length prefix ≤ 4228
+prefix_length : (prefix : List ℕ) (row : Row) (rows : List Row) → HasPrefix prefix row.0 → longest (row ∷ rows) ≤ longest_path → length prefix ≤ longest_path
 unfolding longest
 prefix_length prefix row rows h short =
     let whole : length row.0 ≡ length prefix + length h.0 = ap length h.1 ∙ length-append prefix h.0 in
@@ -184,7 +184,7 @@ unfolding usage top_cost
 bounded_shares row next rows x prefix e further short =
     let rs : List Row = row ∷ next ∷ rows in
     let all = subst (λ (f : List ℕ). AllHavePrefix f rs) e (common_prefix-all row (next ∷ rows)) in
-    let path : length (x ∷ prefix) ≤ 4228 = prefix_length (x ∷ prefix) row (next ∷ rows) all.0 short in
+    let path : length (x ∷ prefix) ≤ longest_path = prefix_length (x ∷ prefix) row (next ∷ rows) all.0 short in
     let node = length-packed_le false (x ∷ prefix) path in
     let shorter = longest-below (x ∷ prefix) rs in
     let bound = further (omega arith) in
@@ -195,7 +195,7 @@ bounded_shares row next rows x prefix e further short =
     let step = one_step (weight_of one rs) (needed rs) (count-some row (next ∷ rows)) (needed-some row (next ∷ rows)) in
     rw (tree_of-shares row next rows x prefix e) (omega arith)
 
-pub usage-tree_of-le : (rows : List Row) → longest rows ≤ 4228 → usage (tree_of rows) ≤ weight_of value_cost rows + weight_of one rows * (needed rows * node_cost)
+pub usage-tree_of-le : (rows : List Row) → longest rows ≤ longest_path → usage (tree_of rows) ≤ weight_of value_cost rows + weight_of one rows * (needed rows * node_cost)
 unfolding usage
 usage-tree_of-le = by_cases IsBounded (record {
   none = λ h. rw tree_of-nil (omega arith);
@@ -214,7 +214,7 @@ costs_of (pair ∷ pairs) h =
     let value = h.0.value_length in
     omega arith
 
-longest-pairs : (pairs : List Pair) → AllByRecursion IsPair pairs → longest (rows_of_pairs pairs) ≤ 4228
+longest-pairs : (pairs : List Pair) → AllByRecursion IsPair pairs → longest (rows_of_pairs pairs) ≤ longest_path
 unfolding longest
 longest-pairs [] h = omega arith
 longest-pairs (pair ∷ pairs) h =
@@ -238,9 +238,9 @@ usage_of_pairs pairs h few place =
     let count = counts_of pairs in
     let fewer = weight_of-below one place rows in
     let depth = needed-longest below_rows in
-    let steps : needed below_rows * node_cost ≤ 4229 * node_cost = (let most : needed below_rows ≤ 4229 = omega arith in mul-le-mul_right node_cost most) in
+    let steps : needed below_rows * node_cost ≤ suc longest_path * node_cost = (let most : needed below_rows ≤ suc longest_path = omega arith in mul-le-mul_right node_cost most) in
     let few_rows : weight_of one below_rows ≤ 2 ^ 32 = omega arith in
-    let nodes : weight_of one below_rows * (needed below_rows * node_cost) ≤ 2 ^ 32 * (4229 * node_cost) = mul-le-mul few_rows steps in
+    let nodes : weight_of one below_rows * (needed below_rows * node_cost) ≤ 2 ^ 32 * (suc longest_path * node_cost) = mul-le-mul few_rows steps in
     omega arith
 
 pub usage-lt : (state : State) → IsState state → (place : List ℕ) → usage (subtree_at state place) < 2 ^ 60
