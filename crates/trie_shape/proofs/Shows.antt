@@ -9,7 +9,7 @@ use Rattle.byte_model.proofs.Below.{sum_below-agree, joined_below-agree}
 use Rattle.trie_model.specs.Grown.{grown, under}
 use Rattle.trie_model.specs.State.{Row}
 use Rattle.trie_model.specs.Tree.{Tree, nothing, leaf, branch, extension, ends_here, tree_of}
-use Rattle.trie_model.specs.Texts.{text, usage, top_cost, value_ref, name_of}
+use Rattle.trie_model.specs.Texts.{text, usage, top_cost, value_ref, name_of, node_of}
 use Rattle.trie_model.proofs.Growth.{tree_of-under}
 use Rattle.base_core.specs.declared.hash.Digest.{Digest}
 use Rattle.node_codec.specs.Meanings.{value_of}
@@ -18,7 +18,7 @@ use Rattle.trie_shape.specs.declared.close_error.CloseError.{CloseError}
 use Rattle.trie_shape.specs.declared.closed.Closed.{Closed}
 use Rattle.trie_shape.specs.declared.sub.Sub.{Sub}
 use Rattle.trie_shape.specs.declared.sub.Sub.TheVariants.{Empty, Leaf, Branch, Extension}
-use Rattle.trie_shape.specs.Shows.{Shows, MayClose, under_of, top_node, usage_of, digest_of, IsRecord, IsTop, IsName, child_of, AreChildren, IsBranchOf}
+use Rattle.trie_shape.specs.Shows.{Shows, MayClose, under_of, top_node, usage_of, digest_of, IsRead, IsRecord, IsTop, IsName, child_of, AreChildren, IsBranchOf}
 use Rattle.trie_shape.specs.Runs.{DoFork}
 use Rattle.trie_shape.proofs.Kept.{IsSound, tree-forks}
 
@@ -47,6 +47,37 @@ by_kind P cases (Branch digest used) (extension p t) h = absurd h
 by_kind P cases (Extension path child used) nothing h = absurd h
 by_kind P cases (Extension path child used) (leaf p v) h = absurd h
 by_kind P cases (Extension path child used) (branch v kids) h = absurd h
+
+-- ---- of a node that was read
+
+leaf-read : (path p v : List ℕ) (value : ValueRef) → node.leaf p (value_ref v) ≡ node.leaf path (value_of value) → Shows (Leaf path value) (leaf p v)
+leaf-read path p v value e =
+    let along : path ≡ p = cc in
+    let named : value_of value ≡ value_ref v = cc in
+    (along, named)
+
+extension-read : (path p : List ℕ) (child : Digest) (below : ℕ) (tree : Tree) → node.extension p (sha256 (text tree)) ≡ node.extension path child.0 → usage (extension p tree) ≡ own_cost (node.extension p (sha256 (text tree))) + below → Shows (Extension path child below) (extension p tree)
+unfolding own_cost usage top_cost
+extension-read path p child below tree e uses =
+    let along : path ≡ p = cc in
+    let named : child.0 ≡ sha256 (text tree) = cc in
+    (along, named, omega arith)
+
+pub read-shown : (sub : Sub) (tree : Tree) → IfSome (node_of tree) (λ node. IsRead sub node (sha256 (text tree)) (usage tree) → Shows sub tree)
+unfolding node_of
+read-shown sub nothing = tt
+read-shown (Leaf path value) (leaf p v) = leaf-read path p v value
+read-shown (Branch digest used) (branch v kids) = λ h. h
+read-shown (Extension path child used) (extension p tree) = λ h. extension-read path p child used tree h.0 h.1
+read-shown Empty (leaf p v) = λ h. absurd h
+read-shown Empty (branch v kids) = λ h. absurd h
+read-shown Empty (extension p t) = λ h. absurd h
+read-shown (Leaf path value) (branch v kids) = λ h. cc
+read-shown (Leaf path value) (extension p t) = λ h. cc
+read-shown (Branch digest used) (leaf p v) = λ h. absurd h
+read-shown (Branch digest used) (extension p t) = λ h. absurd h
+read-shown (Extension path child used) (leaf p v) = λ h. let e = h.0 in cc
+read-shown (Extension path child used) (branch v kids) = λ h. let e = h.0 in cc
 
 -- ---- nibbles put before it
 

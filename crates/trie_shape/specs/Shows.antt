@@ -72,6 +72,13 @@ Shows (Branch digest used) (branch v kids) = (digest.0 ≡ sha256 (text (branch 
 Shows (Extension path child used) (extension p tree) = (path ≡ p) × (child.0 ≡ sha256 (text tree)) × (used ≡ usage tree)
 Shows sub tree = ⊥
 
+-- the subtree of a node that was read, from the digest of its text and the usage that it states
+abbrev pub IsRead : Sub → Node → List ℕ → ℕ → Type 0
+IsRead (Leaf path value) read digest used = read ≡ node.leaf path (value_of value)
+IsRead (Branch named below) (node.branch value kids) digest used = (named.0 ≡ digest) × (below ≡ used)
+IsRead (Extension path child below) read digest used = (read ≡ node.extension path child.0) × (used ≡ own_cost read + below)
+IsRead sub read digest used = ⊥
+
 -- ---- records
 
 -- the record of a node in a subtree of this usage
