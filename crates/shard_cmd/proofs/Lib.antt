@@ -1,5 +1,5 @@
 pub mod Stops
-pub mod Laid
+pub mod Puts
 pub mod Scripts
 pub mod Replies
 pub mod Runs

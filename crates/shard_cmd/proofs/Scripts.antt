@@ -8,8 +8,8 @@ use Rattle.trie_model.specs.State.{State}
 use Rattle.output_model.specs.Ends.{Output, RunLimits, syntax_at, full_pairs}
 use Rattle.output_model.specs.Scripts.{after_line, lines_output, script_output}
 use Rattle.output_model.specs.Root.{root_done, root_script, root_output}
-use Rattle.output_model.proofs.Steps as steps
-use Rattle.output_model.proofs.Steps.{first_output}
+use Rattle.output_model.proofs.FirstLine as lines_of
+use Rattle.output_model.proofs.FirstLine.{first_output}
 use Rattle.base_core.specs.PairMaps.{PairMap}
 use Rattle.script_io.specs.declared.event.Event.{Event}
 use Rattle.script_io.specs.LinesStates.{LinesState}
@@ -85,7 +85,7 @@ ends_whole None after new_after most old new state limits same u h = tt
 ends_whole (Some input) after new_after most old new state limits same u h =
     let told = u.told limits same in
     let none : old.pending ++ told.0 ≡ [] = (subst (λ (o : Option (List ℕ)). IfSome o (λ left. NextIs (old.pending ++ left) old new new_after (Ok None))) told.1 h).0 in
-    told.2 ∙ ap (λ (bytes : List ℕ). lines_output (root_script limits) old.before (old.lines + 1) state (pieces bytes)) none ∙ steps.end_output (root_script limits) old.before (old.lines + 1) state
+    told.2 ∙ ap (λ (bytes : List ℕ). lines_output (root_script limits) old.before (old.lines + 1) state (pieces bytes)) none ∙ lines_of.end_output (root_script limits) old.before (old.lines + 1) state
 
 pub nothing_left : (left after new_after : Option (List ℕ)) (most : ℕ) (old new : LinesState) (state : State) (limits : RunLimits) → limits.pairs ≡ most → IsUpTo left most old after state
     → IfSome after (λ left. NextIs (old.pending ++ left) old new new_after (Ok None)) → IfSome left (λ _. new_after ≡ Some [])

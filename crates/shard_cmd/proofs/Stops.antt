@@ -1,5 +1,5 @@
 -- Why a script stops at a line.
-use Rattle.std.proofs.Common.{◌≡◌, ◌≢◌, ℕ, ◌^◌, ◌≤◌, List, [], ◌∷◌, ◌++◌, length, Option, Some, None, Result, Err, IfSome, ap, subst, inl, arith}
+use Rattle.std.proofs.Common.{◌≡◌, ◌≢◌, ℕ, ◌^◌, ◌≤◌, List, [], ◌∷◌, ◌++◌, length, Option, Some, None, Result, Err, IfSome, ap, subst, inl, inr, arith}
 use Rattle.std.specs.Borrow.{Bor}
 use Rattle.script_model.specs.Lines.{LineFault, long, past, first_fault, first_line, event_if}
 use Rattle.script_io.specs.declared.line_error.LineError.{LineError}
@@ -25,4 +25,4 @@ stops_at_line old new (Some left) after r error is asked = by_error error (subst
     by_error line_error.Long a = faulty old.before (old.pending ++ left) long (omega (arith, a.progress, a.bounded)) a.answer
     by_error line_error.Past a = faulty old.before (old.pending ++ left) past (omega (arith, a.progress, a.bounded)) a.answer
     by_error line_error.ReadFault a = tt
-    by_error line_error.NoMemory a = tt
+    by_error line_error.NoMemory a = inr a.undecided

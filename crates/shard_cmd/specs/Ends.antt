@@ -33,7 +33,7 @@ HasEnding output ending = IfSome ending (λ e. e ≡ output.ending)
 
 -- what a run may end with whose words are no command
 abbrev pub IsUsageUnlessFailed : Status → Type 0
-IsUsageUnlessFailed status = (status ≡ Usage) ⊎ (status ≡ NoMemory) ⊎ (status ≡ WriteFault)
+IsUsageUnlessFailed status = (status ≡ Usage) ⊎ (status ≡ WriteFault)
 
 -- what a run may end with that carries out a command and does not fail
 abbrev pub IsAnswer : Status → Type 0

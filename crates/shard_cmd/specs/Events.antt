@@ -1,5 +1,5 @@
 -- What comes of asking for the next event of a script.
-use Rattle.std.specs.Prelude.{◌≡◌, ◌≢◌, ℕ, ◌+◌, ◌<◌, ◌≤◌, List, [], ◌++◌, length, nat_le, not, ◌&&◌, Bool, true, false, Option, None, Some, Result, Ok, Err}
+use Rattle.std.specs.Prelude.{◌≡◌, ◌≢◌, ℕ, ◌+◌, ◌<◌, ◌≤◌, List, [], ◌++◌, length, nat_le, not, ◌&&◌, Bool, true, false, Option, None, Some, IsSome, Result, Ok, Err, ◌⊎◌}
 use Rattle.std.specs.FinMap.{len, contains_key}
 use Rattle.base_core.specs.Faults as ended
 use Rattle.base_core.specs.Faults.{Ended}
@@ -10,7 +10,7 @@ use Rattle.output_model.specs.Ends.{Output, syntax_at, full_pairs}
 use Rattle.output_model.specs.Root.{root_done}
 use Rattle.trie_model.specs.State.{State, IsPair}
 use Rattle.script_io.specs.declared.event.Event.{Event}
-use Rattle.script_io.specs.LinesStates.{LinesState}
+use Rattle.script_io.specs.LinesStates.{LinesState, IsOpen}
 use Rattle.script_io.specs.Meanings.{event}
 use Rattle.script_io.specs.declared.event.EventError.{EventError}
 use Rattle.script_io.specs.declared.event.EventError.TheVariants as event_error
@@ -34,12 +34,13 @@ pub record Asks (bytes : List ℕ) (old new : LinesState) (left : Option (List �
   pub before : new.before ≡ old.before + length (first_line bytes) + first_feed bytes
   pub behind : (rest : List ℕ) × (left ≡ Some rest) × (new.pending ++ rest ≡ behind_line bytes)
 
+-- What comes of asking. Memory is to blame only where the line asks for an event, or where more bytes were needed to tell.
 abbrev pub NextIs : (bytes : List ℕ) (old new : LinesState) (left : Option (List ℕ)) → Result (Option Event) Stop → Type 0
 NextIs bytes old new left (Ok None) = (bytes ≡ []) × (left ≡ Some [])
 NextIs bytes old new left (Ok (Some asked)) = Asks bytes old new left (event asked)
 NextIs bytes old new left (Err stop.Syntax) = (length bytes ≢ 0) × (first_event old.before bytes ≡ None)
 NextIs bytes old new left (Err stop.ReadFault) = Unit {0}
-NextIs bytes old new left (Err stop.NoMemory) = Unit {0}
+NextIs bytes old new left (Err stop.NoMemory) = IsSome (first_event old.before bytes) ⊎ IsOpen new.before new.pending
 
 -- which stop an error of a line is, and which an error of an event
 abbrev pub line_stop : LineError → Stop

@@ -1,5 +1,5 @@
 use Rattle.output_model.specs.Root.{root_script}
-use Rattle.output_model.proofs.Steps.{end_output, first_output}
+use Rattle.output_model.proofs.FirstLine.{end_output, first_output}
 use Rattle.output_model.proofs.laws.first_line_decides.Goals as goal
 
 pub returns-clause-end : goal.returns-clause-end

@@ -1,6 +1,6 @@
 use Rattle.std.proofs.Common.{ap, ◌∙◌, sym, Err}
 use Rattle.script_io.specs.Meanings.{event}
-use Rattle.shard_cmd.proofs.Laid.{event_laid}
+use Rattle.shard_cmd.proofs.Puts.{event_laid}
 use Rattle.shard_cmd.proofs.root.lay.Goals as goal
 
 pub returns-in-Ok-clause-lays : goal.returns-in-Ok-clause-lays
