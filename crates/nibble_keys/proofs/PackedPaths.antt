@@ -5,9 +5,6 @@ use Rattle.std.proofs.lemmas.List.Elements.{All-get_or, All-from_recursion}
 use Rattle.byte_model.specs.Nibbles.{AreNibbles}
 use Rattle.byte_model.specs.PackedPath.{packed, packed_behind, two_to_a_byte, leaf_flag, odd_flag}
 
-pub get_or-lt_16 : (path : List ℕ) (i : ℕ) → AreNibbles path → i < length path → get_or path i 0 < 16
-get_or-lt_16 path i are within = All-get_or (λ nibble. nibble < 16) path i 0 within (All-from_recursion (λ nibble. nibble < 16) path are)
-
 pub two_to_a_byte-more : (path : List ℕ) (i : ℕ) → 2 * i + 1 < length path → two_to_a_byte (take (2 * (i + 1)) path) ≡ two_to_a_byte (take (2 * i) path) ++ (16 * get_or path (2 * i) 0 + get_or path (2 * i + 1) 0) ∷ []
 unfolding two_to_a_byte
 two_to_a_byte-more [] i within = absurd (omega (arith, within))

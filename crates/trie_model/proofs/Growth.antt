@@ -10,11 +10,10 @@ use Rattle.byte_model.specs.Below.{joined_below}
 use Rattle.byte_model.proofs.Digits.{nat_cmp-greater, nat_cmp-itself}
 use Rattle.trie_model.specs.State.{Row}
 use Rattle.trie_model.specs.Tree.{Tree, nothing, leaf, branch, extension, rest_behind, below, ends_here, common, common_prefix, tree_of}
-use Rattle.trie_model.specs.Grown.{grown}
+use Rattle.trie_model.specs.Grown.{grown, here, spread}
 use Rattle.trie_model.proofs.Rests.{same_nibble, under, below-append, below-under, below-rows_append, under-below, AllHavePrefix}
 use Rattle.trie_model.proofs.Trees.{tree_of-nil, tree_of-one, tree_of-forks, tree_of-shares}
 use Rattle.trie_model.proofs.Order.{Before, RisingRows}
-use Rattle.trie_model.proofs.Pairs.{here}
 
 -- ---- a prefix before all paths
 
@@ -97,27 +96,23 @@ ends_here-under x [] = refl
 ends_here-under x (row ∷ rows) = ends_here-under x rows
 
 module _ (kids : ℕ → List Row) where
-  -- the rows of each nibble below n, in order
-  abbrev pub spread : ℕ → List Row
-  spread n = joined_below (λ x. under (x ∷ []) (kids x)) n
-
-  pub ends_here-spread : (n : ℕ) → ends_here (spread n) ≡ None
+  pub ends_here-spread : (n : ℕ) → ends_here (spread kids n) ≡ None
   unfolding joined_below ends_here
   ends_here-spread zero = refl
-  ends_here-spread (suc n) = ends_here-append (spread n) (under (n ∷ []) (kids n)) (ends_here-spread n) ∙ ends_here-under n (kids n)
+  ends_here-spread (suc n) = ends_here-append (spread kids n) (under (n ∷ []) (kids n)) (ends_here-spread n) ∙ ends_here-under n (kids n)
 
-  pub below-spread_past : (x n : ℕ) → n ≤ x → below (x ∷ []) (spread n) ≡ []
+  pub below-spread_past : (x n : ℕ) → n ≤ x → below (x ∷ []) (spread kids n) ≡ []
   unfolding joined_below below
   below-spread_past x zero h = refl
   below-spread_past x (suc n) h =
-      below-rows_append (x ∷ []) (spread n) (under (n ∷ []) (kids n))
+      below-rows_append (x ∷ []) (spread kids n) (under (n ∷ []) (kids n))
       ∙ ap₂ (λ (a b : List Row). a ++ b) (below-spread_past x n (omega arith)) (below-under_other x n (kids n) (omega arith))
 
-  pub below-spread : (x n : ℕ) → x < n → below (x ∷ []) (spread n) ≡ kids x
+  pub below-spread : (x n : ℕ) → x < n → below (x ∷ []) (spread kids n) ≡ kids x
   unfolding joined_below
   below-spread x zero h = absurd (omega arith)
   below-spread x (suc n) h =
-      below-rows_append (x ∷ []) (spread n) (under (n ∷ []) (kids n))
+      below-rows_append (x ∷ []) (spread kids n) (under (n ∷ []) (kids n))
       ∙ elim (cases_lt x n) [
         | inl l ↦ ap₂ (λ (a b : List Row). a ++ b) (below-spread x n l) (below-under_other x n (kids n) (omega arith)) ∙ append-nil (kids x)
         | inr r ↦
@@ -127,17 +122,17 @@ module _ (kids : ℕ → List Row) where
       ]
 
   -- below a nibble of rows that are spread, and the one that ends among them
-  pub below-here_spread : (value : Option (List ℕ)) (x : ℕ) → x < 16 → below (x ∷ []) (here value ++ spread 16) ≡ kids x
+  pub below-here_spread : (value : Option (List ℕ)) (x : ℕ) → x < 16 → below (x ∷ []) (here value ++ spread kids 16) ≡ kids x
   unfolding below rest_behind
   below-here_spread None x h = below-spread x 16 h
   below-here_spread (Some value) x h = below-spread x 16 h
 
-  pub below-here_spread_past : (value : Option (List ℕ)) (x : ℕ) → 16 ≤ x → below (x ∷ []) (here value ++ spread 16) ≡ []
+  pub below-here_spread_past : (value : Option (List ℕ)) (x : ℕ) → 16 ≤ x → below (x ∷ []) (here value ++ spread kids 16) ≡ []
   unfolding below rest_behind
   below-here_spread_past None x h = below-spread_past x 16 h
   below-here_spread_past (Some value) x h = below-spread_past x 16 h
 
-  pub ends_here-here_spread : (value : Option (List ℕ)) → ends_here (here value ++ spread 16) ≡ value
+  pub ends_here-here_spread : (value : Option (List ℕ)) → ends_here (here value ++ spread kids 16) ≡ value
   unfolding ends_here
   ends_here-here_spread None = ends_here-spread 16
   ends_here-here_spread (Some value) = refl
@@ -234,12 +229,6 @@ pub common_prefix-ends : (row : Row) (rows : List Row) → row.0 ≡ [] → comm
 unfolding common_prefix common
 common_prefix-ends row [] e = e
 common_prefix-ends row (next ∷ rows) e = ap (λ (p : List ℕ). common p (common_prefix next rows)) e
-
-pub common_prefix-differs : (row : Row) (rows : List Row) (x y : ℕ) (p q : List ℕ) → RisingRows (row ∷ rows) → row.0 ≡ x ∷ p → (last_row row rows).0 ≡ y ∷ q → x ≢ y → common_prefix row rows ≡ []
-unfolding common
-common_prefix-differs row rows x y p q rising first last apart =
-    let test : (x == y) ≡ false = grind (arith, nat_tests) in
-    common_prefix-rising row rows rising ∙ ap₂ common first last ∙ ap (λ b. if b then x ∷ common p q else []) test
 
 -- The trie of rows that fork, from those of their nibbles.
 pub tree_of-spread : (kids : ℕ → List Row) (value : Option (List ℕ)) (row next : Row) (rows : List Row) → ((x : ℕ) → 16 ≤ x → kids x ≡ []) → here value ++ spread kids 16 ≡ row ∷ next ∷ rows → common_prefix row (next ∷ rows) ≡ [] → tree_of (here value ++ spread kids 16) ≡ branch value (λ x. tree_of (kids x))

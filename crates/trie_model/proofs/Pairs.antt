@@ -14,6 +14,7 @@ use Rattle.byte_model.specs.Below.{joined_below}
 use Rattle.byte_model.specs.Nibbles.{AreNibbles}
 use Rattle.trie_model.specs.State.{State, Row, IsPair, IsState, rows_of}
 use Rattle.trie_model.specs.Tree.{Tree, nothing, leaf, branch, extension, rest_behind, below, ends_here, tree_of}
+pub use Rattle.trie_model.specs.Grown.{here}
 use Rattle.trie_model.specs.Texts.{behind, places}
 use Rattle.trie_model.specs.Root.{subtree_at, places_of}
 use Rattle.trie_model.specs.Laws.{held_by, held_at}
@@ -26,11 +27,6 @@ use Rattle.trie_model.proofs.Order.{Before, RisingRows, rising-below, rising-row
 -- a row with a prefix put before its path
 abbrev pub prefixed : List ℕ → Row → Row
 prefixed prefix row = (prefix ++ row.0, row.1)
-
--- the row that stands here, as a list
-abbrev pub here : Option (List ℕ) → List Row
-here None = []
-here (Some value) = ([], value) ∷ []
 
 -- the rows that a tree holds, in the order of its places
 unfoldable pub held : Tree → List Row

@@ -17,10 +17,6 @@ equal_of_test x y e = grind (arith, nat_tests)
 
 -- ---- the rest of a path behind a prefix
 
-pub rest_behind-nil : (path : List ℕ) → rest_behind [] path ≡ Some path
-unfolding rest_behind
-rest_behind-nil path = refl
-
 -- behind two prefixes in a row
 pub rest_behind-append : (p q path : List ℕ) → rest_behind (p ++ q) path ≡ option_and_then (rest_behind q) (rest_behind p path)
 unfolding rest_behind
@@ -63,10 +59,6 @@ pub below-none : (prefix : List ℕ) → below prefix [] ≡ []
 unfolding below
 below-none prefix = refl
 
-pub below-cons : (prefix : List ℕ) (row : Row) (rows : List Row) → below prefix (row ∷ rows) ≡ cons_option (row_behind prefix row) (below prefix rows)
-unfolding below
-below-cons prefix row rows = refl
-
 -- a step further down: below two prefixes in a row
 pub below-append : (p q : List ℕ) (rows : List Row) → below (p ++ q) rows ≡ below q (below p rows)
 unfolding below
@@ -94,9 +86,6 @@ below-under prefix (row ∷ rows) =
     rw (rest_behind-prefix prefix row.0) (ap (λ rs. row ∷ rs) (below-under prefix rows))
 
 -- ---- prefixes
-
-pub HasPrefix-append : (prefix more path : List ℕ) → HasPrefix (prefix ++ more) path → HasPrefix prefix path
-HasPrefix-append prefix more path h = (more ++ h.0, h.1 ∙ append_assoc prefix more h.0)
 
 pub HasPrefix-HasPrefix : (prefix longer path : List ℕ) → HasPrefix prefix longer → HasPrefix longer path → HasPrefix prefix path
 HasPrefix-HasPrefix prefix longer path h k = (h.0 ++ k.0, k.1 ∙ ap (λ (p : List ℕ). p ++ k.0) h.1 ∙ append_assoc prefix h.0 k.0)

@@ -1,6 +1,6 @@
 //! Laws over the definitions, in other words than theirs. A law is proved where its function is: there is nothing to run.
 
-ghost use Rattle.std.specs.Prelude.{◌≡◌, ◌≢◌, ◌+◌, ◌^◌, ◌<◌, ◌↔◌, ℕ, List, [], ◌∷◌, ◌++◌, sum_by, filter_map, Contains, IfSome};
+ghost use Rattle.std.specs.Prelude.{◌≡◌, ◌≢◌, ◌+◌, ◌^◌, ◌<◌, ◌≤◌, ◌↔◌, ℕ, List, [], ◌∷◌, ◌++◌, sum_by, filter_map, Contains, Option, IfSome};
 ghost use Rattle.std.specs.Ordering.{nat_cmp};
 ghost use Rattle.std.specs.List.Sorted.{IsStrictlySortedBy};
 ghost use Rattle.std.specs.Cmp.Lexicographic.{slice_cmp};
@@ -9,8 +9,8 @@ ghost use Rattle.sha2.specs.Sha256.{sha256};
 ghost use Rattle.byte_model.specs.Node.{IsShaped, own_cost, spelled};
 ghost use Rattle.byte_model.specs.Laws.{FitsRecord};
 ghost use Rattle.trie_model.specs.State.{State, Row, IsState, rows_of};
-ghost use Rattle.trie_model.specs.Tree.{Tree, below, longest, tree_by, tree_of, tree_within};
-ghost use Rattle.trie_model.specs.Grown.{AllHavePrefix, grown, under};
+ghost use Rattle.trie_model.specs.Tree.{Tree, branch, below, common_prefix, longest, tree_by, tree_of, tree_within};
+ghost use Rattle.trie_model.specs.Grown.{AllHavePrefix, grown, here, spread, under};
 ghost use Rattle.trie_model.specs.Texts.{node_of, top_cost, usage};
 ghost use Rattle.trie_model.specs.Root.{NoClash, Holds, Table, places_of, root, subtree_at, text_at, texts_of, total, zero_digest};
 ghost use Rattle.trie_model.specs.Laws.{ChildrenArePlaces, NamesChildren, children_usage, held_at};
@@ -35,6 +35,12 @@ pub fn trie_of_rows_under_nibbles()
     ensures under { (nibbles : List ℕ) (rows : List Row) → tree_of (under nibbles rows) ≡ grown nibbles (tree_of rows) }
     ensures prefix { (prefix : List ℕ) (rows : List Row) → AllHavePrefix prefix rows → tree_of rows ≡ grown prefix (tree_of (below prefix rows)) }
     ensures twice { (p q : List ℕ) (tree : Tree) → grown p (grown q tree) ≡ grown (p ++ q) tree }
+{}
+
+/// Rows fork where they share no prefix, as where one ends. Their trie is then a branch, with the value that ends and the tries of the rows behind each nibble.
+pub fn trie_of_rows_that_fork()
+    ensures ends { (row : Row) (rows : List Row) → row.0 ≡ [] → common_prefix row rows ≡ [] }
+    ensures branch { (kids : ℕ → List Row) (value : Option (List ℕ)) (row next : Row) (rows : List Row) → ((x : ℕ) → 16 ≤ x → kids x ≡ []) → here value ++ spread kids 16 ≡ row ∷ next ∷ rows → common_prefix row (next ∷ rows) ≡ [] → tree_of (here value ++ spread kids 16) ≡ branch value (λ x. tree_of (kids x)) }
 {}
 
 /// A text depends on the rests and values of the pairs below its place, and on nothing else of the state or the place.
