@@ -1,5 +1,5 @@
 use crate::bench_error::BenchError;
-use base_core::Digest;
+use base_core::{DIGEST_BYTES, Digest};
 use std::alloc::Global;
 
 /// What a line asks for.
@@ -32,10 +32,8 @@ pub fn read_line(alloc: Global, line: &[u8]) -> Result<Asked, BenchError> {
 }
 
 fn read_root(bytes: &[u8]) -> Result<Asked, BenchError> {
-    if bytes.len() != 32 {
+    if bytes.len() != DIGEST_BYTES {
         return Err(BenchError::Line);
     }
-    let mut root = [0; 32];
-    root.copy_from_slice(bytes);
-    Ok(Asked::Root(Digest(root)))
+    Ok(Asked::Root(Digest::from_slice(bytes)))
 }

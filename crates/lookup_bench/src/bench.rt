@@ -1,12 +1,9 @@
 use crate::asked::Asked;
 use crate::bench_error::BenchError;
-use base_core::{Digest, Text, digest};
+use base_core::{Digest, LONGEST_KEY, Text, digest};
 use std::alloc::Global;
 use text_store::{AddError, MemNodes, Nodes, ReserveError, Texts};
 use trie_read::get;
-
-/// Bytes of the longest key.
-const LONGEST_KEY: usize = 2114;
 
 /// The texts held, the root, and how many look-ups found a value.
 #[derive(Debug, Drop)]
@@ -67,7 +64,7 @@ impl Bench {
     }
 
     fn look_up(&mut self, key: &[u8]) -> Result<(), BenchError> {
-        if key.len() > LONGEST_KEY {
+        if key.len() as u64 > LONGEST_KEY {
             return Err(BenchError::Line);
         }
         match get(&mut self.store, &self.root, key) {

@@ -1,50 +1,27 @@
--- One place of a listing.
-use Rattle.std.specs.Prelude.{◌≡◌, ◌≢◌, ℕ, ◌%◌, ◌≤◌, true, List, [], ◌∷◌, ◌++◌, length, Option, None, Some, IfSome, IsSomeAnd, Result, Ok, Err, ⊤}
+-- What a listing answers: one place of it, one pair, and the whole.
+use Rattle.std.specs.Prelude.{◌≡◌, ◌≢◌, ℕ, List, [], ◌∷◌, ◌++◌, length, Option, None, Some, IfSome, IsSomeAnd, Result, Ok, Err, ⊤}
 use Rattle.std.specs.Option.{option_map}
 use Rattle.std.specs.FinMap.{get, entries}
 use Rattle.byte_model.specs.Nibbles.{nibbles}
-use Rattle.byte_model.specs.PackedPath.{longest_path}
-use Rattle.byte_model.specs.Node.{Node}
-use Rattle.record_model.specs.Records.{record_in}
-use Rattle.record_model.specs.Fits.{fits_at}
 use Rattle.trie_model.specs.Root.{Table}
 use Rattle.trie_model.specs.State.{rows_of}
-use Rattle.visit_model.specs.Seen.{Looks, bad, seen_record}
 use Rattle.visit_model.specs.Steps.{node, no_text, no_node, value_steps}
 use Rattle.visit_model.specs.Visits as visiting
 use Rattle.visit_model.specs.Visits.{Visits}
-use Rattle.base_core.specs.Faults.{Rose}
 use Rattle.base_core.specs.PairMaps.{PairMap, laid}
-use Rattle.text_store.specs.Loading.{Digests}
-use Rattle.text_store.specs.Visiting.{HasLoaded, Remembers}
 use Rattle.node_codec.specs.declared.value_ref.ValueRef as codec
 use Rattle.node_codec.specs.Meanings.{value_of}
-use Rattle.trie_read.specs.declared.errors.ReadError.{ReadError}
-use Rattle.trie_read.specs.declared.errors.ReadError.TheVariants as read
 use Rattle.trie_read.specs.declared.errors.ListError.{ListError}
 use Rattle.trie_read.specs.declared.errors.ListError.TheVariants.{Missing, Bad, Fault, NoMemory}
 use Rattle.trie_read.specs.declared.walk.Place.{Place}
 use Rattle.trie_read.specs.declared.walk.Walk.{Walk}
-use Rattle.trie_read.specs.Walks.{IsWalk, Enters, place_bound, place_depth, steps_at, steps_of}
-
--- The text of a place spells a node that fits there, which was entered.
-pub record Opened (text from : List ℕ) (old new : Walk) (place : Place) (found : Option codec.ValueRef) : Type 0 where
-  pub node : Node
-  pub usage : ℕ
-  pub read : record_in text ≡ Ok (node, usage)
-  pub fits : fits_at (place_depth place) place.after_extension node ≡ true
-  pub enters : Enters old new node (place_bound from place) found
-
--- or it spells none
-abbrev pub IsOpened : (text from : List ℕ) (old new : Walk) → Place → Option (Option codec.ValueRef) → Type 0
-IsOpened text from old new place None = (look : Looks) (digest : List ℕ) → seen_record look (place_depth place) place.after_extension digest (record_in text) ≡ bad digest
-IsOpened text from old new place (Some found) = Opened text from old new place found
+use Rattle.trie_read.specs.Walks.{IsWalk, IsValueAt, steps_at, steps_of}
 
 -- The place was visited: its steps and those after it are its node's, then its value's, and then those that the walk has taken up.
 pub record Passed (table : Table) (from : List ℕ) (old new : Walk) (place : Place) (found : Option codec.ValueRef) : Type 0 where
   pub steps : steps_at table from old.path.items place ++ steps_of table from old.path.items old.pending.items ≡ node place.digest.0 ∷ value_steps new.path.items (option_map value_of found) ++ steps_of table from new.path.items new.pending.items
   pub walk : IsWalk new.path.items new.pending.items
-  pub whole : IfSome found (λ _. (length new.path.items % 2 ≡ 0) × (length new.path.items ≤ longest_path))
+  pub names : IfSome found (IsValueAt new.path.items)
 
 -- what visiting a place answers
 abbrev pub AnswersPlace : Table → List ℕ → (old new : Walk) → Place → Result (Option codec.ValueRef) ListError → Type 0
@@ -54,26 +31,7 @@ AnswersPlace table from old new place (Err (Bad named)) = (named ≡ place.diges
 AnswersPlace table from old new place (Err Fault) = ⊤
 AnswersPlace table from old new place (Err NoMemory) = ⊤
 
--- at most so many loads
-pub record HasLoadedUpTo {S : Type 0} (alike : S → S → Type 0) (loads faults : S → ℕ) (old new : S) (most : ℕ) : Type 0 where
-  pub count : ℕ
-  pub within : count ≤ most
-  pub loaded : HasLoaded alike loads faults old new count
-
--- what it leaves of the store
-abbrev pub LeftByPlace : {S X : Type 0} → (S → S → Type 0) → (loads faults : S → ℕ) → (S → Option Digests) → (old new : S) → List ℕ → Result X ListError → Type 0
-LeftByPlace alike loads faults kept old new digest (Ok x) = HasLoaded alike loads faults old new 1 × Remembers (kept old) (kept new) (digest ∷ [])
-LeftByPlace alike loads faults kept old new digest (Err (Missing named)) = HasLoaded alike loads faults old new 1
-LeftByPlace alike loads faults kept old new digest (Err (Bad named)) = HasLoaded alike loads faults old new 1
-LeftByPlace alike loads faults kept old new digest (Err Fault) = HasLoaded alike loads faults old new 1 × Rose (faults old) (faults new)
-LeftByPlace alike loads faults kept old new digest (Err NoMemory) = HasLoadedUpTo alike loads faults old new 1
-
 -- ---- pairs
-
-abbrev pub as_listed : ReadError → ListError
-as_listed (read.Missing digest) = Missing digest
-as_listed (read.Bad digest) = Bad digest
-as_listed read.Fault = Fault
 
 -- the pair of the key with these nibbles was laid over
 pub record LaysOver (path value : List ℕ) (old new : PairMap) : Type 0 where
@@ -115,11 +73,3 @@ AnswersPairs pairs (Ok found) = entries found.state ≡ pairs
 AnswersPairs pairs (Err Fault) = ⊤
 AnswersPairs pairs (Err NoMemory) = ⊤
 AnswersPairs pairs (Err _) = ⊥
-
--- What a listing with these visits leaves of the store, by its answer.
-abbrev pub LeavesListed : {S X : Type 0} → (S → S → Type 0) → (loads faults : S → ℕ) → (S → Option Digests) → (old new : S) → List (List ℕ) → Result X ListError → Type 0
-LeavesListed alike loads faults kept old new digests (Ok x) = HasLoaded alike loads faults old new (length digests) × Remembers (kept old) (kept new) digests
-LeavesListed alike loads faults kept old new digests (Err (Missing named)) = HasLoaded alike loads faults old new (length digests)
-LeavesListed alike loads faults kept old new digests (Err (Bad named)) = HasLoaded alike loads faults old new (length digests)
-LeavesListed alike loads faults kept old new digests (Err Fault) = HasLoadedUpTo alike loads faults old new (length digests) × Rose (faults old) (faults new)
-LeavesListed alike loads faults kept old new digests (Err NoMemory) = HasLoadedUpTo alike loads faults old new (length digests)

@@ -1,39 +1,39 @@
--- One step of a lookup: where a node leads the nibbles that are left of a key.
-use Rattle.std.specs.Prelude.{◌≡◌, ◌≢◌, IsSomeAnd, ℕ, ◌+◌, nat_eq, Bool, true, false, List, [], ◌∷◌, ◌++◌, length, map, Option, None, Some, is_some, Result, Ok, Err, if◌then◌else◌, ⊤}
+-- What a lookup answers: where a node leads the nibbles that are left of a key, and the whole.
+use Rattle.std.specs.Prelude.{◌≡◌, IsSomeAnd, ℕ, ◌+◌, nat_eq, Bool, true, false, List, [], ◌∷◌, ◌++◌, length, map, Option, None, Some, is_some, Result, Ok, Err, if◌then◌else◌, ⊤}
 use Rattle.std.specs.Borrow.{Bor}
 use Rattle.std.specs.Option.{option_map, option_copied}
 use Rattle.std.specs.FinMap.{get}
 use Rattle.std.specs.Cmp.Lexicographic.{pointwise}
 use Rattle.byte_model.specs.Node as node
 use Rattle.byte_model.specs.Node.{Node, ValueRef}
-use Rattle.record_model.specs.Records.{record_in}
-use Rattle.record_model.specs.Fits.{fits_at}
 use Rattle.trie_model.specs.Root.{Table}
 use Rattle.trie_model.specs.Tree.{rest_behind}
-use Rattle.visit_model.specs.Seen.{Seen, Looks, missing, bad, seen_node, seen_record}
-use Rattle.visit_model.specs.Seen as seen
 use Rattle.visit_model.specs.Steps.{Step, no_text, no_node, value}
 use Rattle.visit_model.specs.Steps as step
 use Rattle.visit_model.specs.Visits as visiting
 use Rattle.visit_model.specs.Visits.{Visits}
 use Rattle.visit_model.specs.Bounds.{at_most_one}
+use Rattle.base_core.specs.declared.hash.Digest.{Digest}
 use Rattle.node_codec.specs.declared.value_ref.ValueRef as codec
 use Rattle.node_codec.specs.Meanings.{value_of}
-use Rattle.text_store.specs.Loading.{Digests}
-use Rattle.trie_read.specs.Stores.{VisitedAll}
+use Rattle.trie_shape.specs.Fitting.{fitting_node}
+use Rattle.trie_read.specs.Loads.{IsStopped}
+use Rattle.text_store.specs.Store.{Store}
+use Rattle.text_store.specs.Leaves.{Leaves}
+use Rattle.trie_read.specs.Endings.{read_ended}
 use Rattle.trie_read.specs.declared.errors.ReadError.{ReadError}
 use Rattle.trie_read.specs.declared.errors.ReadError.TheVariants.{Missing, Bad, Fault}
-use Rattle.trie_read.specs.declared.lookup.Next.{Next}
-use Rattle.trie_read.specs.declared.lookup.Next.TheVariants.{End, Child}
+use Rattle.trie_read.specs.declared.following.Next.{Next}
+use Rattle.trie_read.specs.declared.following.Next.TheVariants.{End, Child}
 
 -- the key ends, with a value or none, or it leads to a child
 pub data Leads : Type 0 where
   ends : (value : Option ValueRef) → Leads
   child : (digest : List ℕ) (depth : ℕ) (after_extension : Bool) → Leads
 
-abbrev pub leads_seen : Next → Leads
-leads_seen (End found) = ends (option_map value_of found)
-leads_seen (Child digest depth after_extension) = child digest.0 depth after_extension
+abbrev pub leads_of : Next → Leads
+leads_of (End found) = ends (option_map value_of found)
+leads_of (Child digest depth after_extension) = child digest.0 depth after_extension
 
 abbrev pub leads_to : ℕ → Bool → Option (List ℕ) → Leads
 leads_to depth after_extension None = ends None
@@ -46,33 +46,17 @@ leads depth [] (node.branch ref kids) = ends ref
 leads depth (x ∷ rest) (node.branch ref kids) = leads_to (depth + 1) false (kids x)
 leads depth rest (node.extension path digest) = if is_some (rest_behind path rest) then child digest (depth + length path) true else ends None
 
--- what is seen at a place is a node that fits, and it leads there
-pub record IsNext (table : Table) (at : Seen) (digest : List ℕ) (depth : ℕ) (after_extension : Bool) (rest : List ℕ) (next : Next) : Type 0 where
+-- The text under the digest holds a node for the place, which leads there.
+pub record IsNext (table : Table) (digest : List ℕ) (depth : ℕ) (after_extension : Bool) (rest : List ℕ) (next : Next) : Type 0 where
   pub node : Node
   pub usage : ℕ
-  pub seen : at ≡ seen_node (seen.seen_at table) depth digest node usage
-  pub fits : fits_at depth after_extension node ≡ true
-  pub leads : leads_seen next ≡ leads depth rest node
+  pub held : IsSomeAnd (get table digest) (λ text. fitting_node depth after_extension text ≡ Some (node, usage))
+  pub leads : leads_of next ≡ leads depth rest node
 
 -- what visiting a place answers
-abbrev pub AnswersVisit : Table → Seen → List ℕ → ℕ → Bool → List ℕ → Result Next ReadError → Type 0
-AnswersVisit table at digest depth after_extension rest (Ok next) = IsNext table at digest depth after_extension rest next
-AnswersVisit table at digest depth after_extension rest (Err (Missing named)) = (named.0 ≡ digest) × (at ≡ missing digest)
-AnswersVisit table at digest depth after_extension rest (Err (Bad named)) = (named.0 ≡ digest) × (at ≡ bad digest)
-AnswersVisit table at digest depth after_extension rest (Err Fault) = ⊤
-
--- it spells a node that fits, which leads there
-pub record Leading (depth : ℕ) (after_extension : Bool) (rest text : List ℕ) (next : Next) : Type 0 where
-  pub node : Node
-  pub usage : ℕ
-  pub read : record_in text ≡ Ok (node, usage)
-  pub fits : fits_at depth after_extension node ≡ true
-  pub leads : leads_seen next ≡ leads depth rest node
-
--- what a text is found to be: no node that fits, or one that leads on
-abbrev pub IsText : ℕ → Bool → List ℕ → List ℕ → Option Next → Type 0
-IsText depth after_extension rest text None = (look : Looks) (digest : List ℕ) → seen_record look depth after_extension digest (record_in text) ≡ bad digest
-IsText depth after_extension rest text (Some next) = Leading depth after_extension rest text next
+abbrev pub AnswersVisit : Table → Digest → ℕ → Bool → List ℕ → Result Next ReadError → Type 0
+AnswersVisit table digest depth after_extension rest (Ok next) = IsNext table digest.0 depth after_extension rest next
+AnswersVisit table digest depth after_extension rest (Err error) = IsStopped table digest depth after_extension error
 
 -- Nodes were visited, and then what is told by one more step, the last.
 pub record EndsWith (steps : List Step) (digests : List (List ℕ)) (last : Step) (digest : List ℕ) : Type 0 where
@@ -97,17 +81,10 @@ Finds steps path digests (Err (Bad digest)) = EndsWith steps digests (no_node di
 Finds steps path digests (Err Fault) = Goes steps digests
 
 -- The same, and what it leaves of the store.
-pub record Found {S : Type 0} (alike : S → S → Type 0) (loads faults : S → ℕ) (kept : S → Option Digests) (old new : S) (steps : List Step) (path : List ℕ) (result : Result (Option codec.ValueRef) ReadError) : Type 0 where
+pub record Found {S : Type 0} (store : Store S) (old new : S) (steps : List Step) (path : List ℕ) (result : Result (Option codec.ValueRef) ReadError) : Type 0 where
   pub digests : List (List ℕ)
   pub finds : Finds steps path digests result
-  pub visited : VisitedAll alike loads faults kept old new digests result
-
--- what visiting a value answers
-abbrev pub AnswersValue : Table → codec.ValueRef → Result (Bor (List ℕ)) ReadError → Type 0
-AnswersValue table ref (Ok text) = (get table ref.digest.0 ≡ Some text.now) × (length text.now ≡ ref.length)
-AnswersValue table ref (Err (Missing named)) = (named ≡ ref.digest) × (get table ref.digest.0 ≡ None)
-AnswersValue table ref (Err (Bad named)) = (named ≡ ref.digest) × IsSomeAnd (get table ref.digest.0) (λ text. length text ≢ ref.length)
-AnswersValue table ref (Err Fault) = ⊤
+  pub left : Leaves store old new digests (read_ended result)
 
 -- What looking a key up answers, by its visits: the value visited, or none; or the test that failed. Where the store failed, nothing more is told.
 abbrev pub AnswersLookup : Visits → List ℕ → Result (Option (Bor (List ℕ))) ReadError → Type 0

@@ -4,7 +4,7 @@ use Rattle.std.specs.Option.{option_map}
 use Rattle.std.specs.List.{AllByRecursion}
 use Rattle.byte_model.specs.Nibbles.{AreNibbles}
 use Rattle.byte_model.specs.PackedPath.{longest_path}
-use Rattle.byte_model.specs.Node.{Node}
+use Rattle.byte_model.specs.Node.{Node, longest_value}
 use Rattle.record_model.specs.Fits.{fits_at}
 use Rattle.trie_model.specs.Root.{Table}
 use Rattle.visit_model.specs.Seen.{seen_at, seen_child, seen_node}
@@ -71,6 +71,12 @@ IsBound from depth bound = (bound ≡ drop depth from) ⊎ (bound ≡ [])
 
 -- ---- nodes
 
+-- The nibbles are those of a key within its limit, and so is the length of the value that is named.
+pub record IsValueAt (path : List ℕ) (ref : codec.ValueRef) : Type 0 where
+  pub whole : length path % 2 ≡ 0
+  pub short : length path ≤ longest_path
+  pub value : ref.length ≤ longest_value
+
 abbrev pub FitsSomewhere : ℕ → Node → Type 0
 FitsSomewhere depth n = (after_extension : Bool) × (fits_at depth after_extension n ≡ true)
 
@@ -84,7 +90,7 @@ pub record Enters (old new : Walk) (n : Node) (bound : List ℕ) (found : Option
       listing_steps (seen_node (seen_at table) (length old.path.items) digest n usage) old.path.items bound ++ steps_of table from old.path.items old.pending.items
       ≡ node digest ∷ value_steps new.path.items (option_map value_of found) ++ steps_of table from new.path.items new.pending.items
   pub walk : IsWalk new.path.items new.pending.items
-  pub whole : IfSome found (λ _. (length new.path.items % 2 ≡ 0) × (length new.path.items ≤ longest_path))
+  pub names : IfSome found (IsValueAt new.path.items)
 
 pub record ChildPlace (kids : ℕ → Option (List ℕ)) (nibble depth : ℕ) (bound : List ℕ) (place : Place) : Type 0 where
   pub prefix : place.prefix ≡ depth

@@ -1,4 +1,9 @@
+ghost use Rattle.std.specs.Prelude.{◌≡◌};
+ghost use Rattle.trie_read.specs.declared.errors.ListError.TheVariants.{NoMemory};
+ghost use Rattle.trie_read.specs.Endings.{as_listed};
+
 use base_core::Digest;
+use std::alloc::AllocError;
 
 /// Why a trie could not be read.
 #[derive(Clone, Copy, Debug, PartialEq, Eq)]
@@ -24,4 +29,24 @@ pub enum ListError {
     Fault,
     /// There was no memory.
     NoMemory,
+}
+
+impl From<ReadError> for ListError {
+    ghost from_gives = { λ error given. given ≡ as_listed error };
+
+    fn from(error: ReadError) -> ListError {
+        match error {
+            ReadError::Missing { digest } => ListError::Missing { digest },
+            ReadError::Bad { digest } => ListError::Bad { digest },
+            ReadError::Fault => ListError::Fault,
+        }
+    }
+}
+
+impl From<AllocError> for ListError {
+    ghost from_gives = { λ _ given. given ≡ NoMemory };
+
+    fn from(_error: AllocError) -> ListError {
+        ListError::NoMemory
+    }
 }

@@ -3,21 +3,18 @@
 #![tactic(auto)]
 
 mod errors;
-mod finding;
+mod following;
 mod listing;
+mod loading;
 mod lookup;
-mod opening;
 mod usage;
-mod visit;
 mod walk;
 
 pub use errors::{ListError, ReadError};
-pub use finding::get;
 pub use listing::list;
+pub use lookup::get;
 pub use usage::usage_of;
 
-#[cfg(test)]
-mod changed_tests;
 #[cfg(test)]
 mod list_tests;
 #[cfg(test)]

@@ -37,12 +37,17 @@ pub(crate) fn holding(
 }
 
 /// The record of a leaf whose value is said to have so many bytes.
-pub(crate) fn leaf(alloc: Global, path: &[u8], size: u32, value: &[u8]) -> Result<Text, AllocError>
+pub(crate) fn leaf(
+    alloc: Global,
+    path: &[u8],
+    value_length: u32,
+    value: &[u8],
+) -> Result<Text, AllocError>
     requires nibbles { AreNibbles path.now }
     requires short { length path.now ≤ longest_path }
 {
     let value = ValueRef {
-        length: size,
+        length: value_length,
         digest: digest(value),
     };
     write_leaf(alloc, path, &value, 103)
@@ -159,45 +164,34 @@ fn stated_usage(rt: HostRuntime) -> Result<(), Fail> {
     Ok(())
 }
 
+/// Each load fails in turn, and each text is missing in turn. The key is 61.
 #[test]
-fn each_load_fails_in_turn(rt: HostRuntime) -> Result<(), Fail> {
+fn lookups_that_are_cut_short(rt: HostRuntime) -> Result<(), Fail> {
     let alloc = rt.alloc();
+    let fault = Err(ReadError::Fault);
+    let mut store = MemNodes::new(alloc, &[1])?;
+    expect(&rt, &mut store, &ROOT, b"a", fault, 1);
     let records = Records::new(alloc)?;
     for load in 1..5 {
         let mut store = records.store(alloc, &[12 + load])?;
-        expect(&rt, &mut store, &ROOT, b"a", Err(ReadError::Fault), load);
+        expect(&rt, &mut store, &ROOT, b"a", fault, load);
         expect(&rt, &mut store, &ROOT, b"a", Ok(Some(b"a")), 4);
     }
-    Ok(())
-}
-
-#[test]
-fn missing_texts(rt: HostRuntime) -> Result<(), Fail> {
-    let alloc = rt.alloc();
-    let records = Records::new(alloc)?;
     let texts: [&[u8]; 3] = [
         records.root.as_slice(),
         records.branch.as_slice(),
         records.first.as_slice(),
     ];
-    let next = [
+    let missing = [
+        ROOT,
         digest(records.branch.as_slice()),
         digest(records.first.as_slice()),
         digest(b"a"),
     ];
-    let mut store = holding(alloc, &[], &[])?;
-    expect(
-        &rt,
-        &mut store,
-        &ROOT,
-        b"a",
-        Err(ReadError::Missing { digest: ROOT }),
-        1,
-    );
-    for i in 0..3 {
-        let mut store = holding(alloc, &texts[..i + 1], &[])?;
-        let missing = Err(ReadError::Missing { digest: next[i] });
-        expect(&rt, &mut store, &ROOT, b"a", missing, i as u64 + 2);
+    for i in 0..4 {
+        let mut store = holding(alloc, &texts[..i], &[])?;
+        let answer = Err(ReadError::Missing { digest: missing[i] });
+        expect(&rt, &mut store, &ROOT, b"a", answer, i as u64 + 1);
     }
     Ok(())
 }
@@ -223,14 +217,13 @@ fn expect_bad(
     Ok(())
 }
 
-/// Records that are cut, longer or changed by a byte.
+/// Records that are cut, longer or changed by a byte, and nodes that may not stand where they do.
 #[test]
-fn records_that_are_none(rt: HostRuntime) -> Result<(), Fail> {
+fn bad_texts(rt: HostRuntime) -> Result<(), Fail> {
     let alloc = rt.alloc();
     let records = Records::new(alloc)?;
     let root = records.root.as_slice();
     assert_eq!(rt; root.len(), 46);
-    expect_bad(&rt, alloc, b"", b"", 1)?;
     let (cut, _) = root.split_at(45);
     expect_bad(&rt, alloc, b"", cut, 1)?;
     let mut changed = Vec::from_slice(alloc, root)?;
@@ -238,14 +231,7 @@ fn records_that_are_none(rt: HostRuntime) -> Result<(), Fail> {
     expect_bad(&rt, alloc, b"", changed.as_slice(), 1)?;
     changed[5] = 0x16;
     changed.push(0)?;
-    expect_bad(&rt, alloc, b"", changed.as_slice(), 1)
-}
-
-/// Nodes that may not stand where they do.
-#[test]
-fn nodes_that_do_not_fit(rt: HostRuntime) -> Result<(), Fail> {
-    let alloc = rt.alloc();
-    let records = Records::new(alloc)?;
+    expect_bad(&rt, alloc, b"", changed.as_slice(), 1)?;
     let odd = leaf(alloc, &[6], 1, b"a")?;
     expect_bad(&rt, alloc, b"", odd.as_slice(), 1)?;
     let lonely = branch(alloc, &records.first, None)?;

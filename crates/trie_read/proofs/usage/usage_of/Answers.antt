@@ -1,90 +1,136 @@
-use Rattle.std.proofs.Common.{Ok, Err, sym, ap, ◌∙◌}
-use Rattle.std.specs.Option.{option_copied}
-use Rattle.visit_model.specs.Visits as visits
-use Rattle.visit_model.specs.Visits.{Visits, top_visits}
-use Rattle.base_core.proofs.Faults.{Rose-risen}
-use Rattle.trie_read.specs.declared.errors.ReadError.TheVariants.{Missing, Bad}
-use Rattle.trie_read.proofs.Stores.{visited-some, loaded-one}
-use Rattle.trie_read.proofs.Topmost.{zero-visits, zero-usage, missing-visits, bad-visits, node-visits, node-usage, usage-state, leaves_none, leaves_node, leaves_refused, top_visits-some}
+use Rattle.std.proofs.Common.{ℕ, List, [], ◌∷◌, Some, Ok, false, sym, subst}
+use Rattle.std.specs.Borrow.{Bor}
+use Rattle.node_codec.specs.Views.{node_viewed}
+use Rattle.text_store.specs.Leaves.{Leaves}
+use Rattle.text_store.proofs.Leaves.{Leaves-refused}
+use Rattle.trie_read.specs.Endings.{by_error, read_ended}
+use Rattle.trie_read.proofs.Loads.{passed_on}
+use Rattle.trie_read.proofs.HeldNodes.{stopped-text, stopped-node, held-node}
+use Rattle.trie_read.proofs.RootVisit.{Answered, answered-zero, answered-stopped, answered-node, usage-state}
 use Rattle.trie_read.proofs.usage.usage_of.Goals as goal
 
 pub returns-then-eq-clause-after : goal.returns-then-eq-clause-after
 returns-then-eq-clause-after g c =
-    let table = g.T.Texts.texts c.args.store.now in
-    leaves_none g.T.Texts.alike g.T.Texts.load_count g.T.Texts.faults g.T.Texts.kept c.args.store.now (top_visits table c.args.root.now.0) g.met.T.Texts.alike_itself (zero-visits table c.args.root.now.0 c.if-eq.ensures)
+    let table = g.T.Texts.store.texts c.args.store.now in
+    let top = c.args.root.now in
+    let all = answered-zero g.T.Texts.store c.args.store.now table top.0 (g.met.T.Texts.alike_itself c.args.store.now) c.if-eq.ensures in
+    all.leaves
 
 pub returns-then-eq-clause-answer : goal.returns-then-eq-clause-answer
-returns-then-eq-clause-answer g c = zero-usage (g.T.Texts.texts c.args.store.now) c.args.root.now.0 c.if-eq.ensures
+returns-then-eq-clause-answer g c =
+    let table = g.T.Texts.store.texts c.args.store.now in
+    let top = c.args.root.now in
+    let all = answered-zero g.T.Texts.store c.args.store.now table top.0 (g.met.T.Texts.alike_itself c.args.store.now) c.if-eq.ensures in
+    all.answers
 
 pub returns-then-eq-clause-state : goal.returns-then-eq-clause-state
 returns-then-eq-clause-state g c =
-    let table = g.T.Texts.texts c.args.store.now in
-    usage-state table c.args.root.now.0 (Ok 0) (zero-usage table c.args.root.now.0 c.if-eq.ensures)
+    let table = g.T.Texts.store.texts c.args.store.now in
+    let top = c.args.root.now in
+    let all = answered-zero g.T.Texts.store c.args.store.now table top.0 (g.met.T.Texts.alike_itself c.args.store.now) c.if-eq.ensures in
+    usage-state table top.0 (Ok 0) all.answers
 
-pub returns-in-Err-clause-after : goal.returns-in-Err-clause-after
-returns-in-Err-clause-after g c =
-    let left = c.load.follows.holds-at-none in
-    record {
-      count = 1;
-      within = top_visits-some (g.T.Texts.texts c.args.store.now) c.args.root.now.0 c.if-eq.ensures;
-      loaded = loaded-one g.T.Texts.alike g.T.Texts.load_count g.T.Texts.faults g.T.Texts.kept c.args.store.now c.load.follows.lender-at-none c.args.root.now.0 c.load.result g.met.T.Texts.alike_itself g.met.T.Texts.alike_onward left.0 left.1;
-      rose = Rose-risen _ _ (rw c.in-Err.is at left.1.failed.rose);
-    }
+pub returns-in_err-text-clause-after : goal.returns-in_err-text-clause-after
+returns-in_err-text-clause-after g c =
+    let table = g.T.Texts.store.texts c.args.store.now in
+    let top = c.args.root.now in
+    let new = c.load_text.follows.lender-at-none in
+    let error = c.in_err-text.field-0.0 in
+    let left = subst (λ r. Leaves g.T.Texts.store c.args.store.now new (top.0 ∷ []) (read_ended {X = Bor (List ℕ)} r)) c.in_err-text.was c.load_text.follows.holds-at-none in
+    let all = passed_on (Answered g.T.Texts.store c.args.store.now new table top.0) c.from_residual.result error c.from_residual.ensures.1
+    (answered-stopped g.T.Texts.store c.args.store.now new table top error c.if-eq.ensures (stopped-text table top 0 false error c.in_err-text.ensures.answer) left) in
+    all.leaves
 
-pub returns-in-Ok-None-clause-after : goal.returns-in-Ok-None-clause-after
-returns-in-Ok-None-clause-after g c =
-    let table = g.T.Texts.texts c.args.store.now in
-    let left = c.load.follows.holds-at-none in
-    let none = sym (ap option_copied c.in-Ok-None.field-0-is) ∙ c.in-Ok-None.ensures.value in
-    leaves_refused g.T.Texts.alike g.T.Texts.load_count g.T.Texts.faults c.args.store.now c.load.follows.lender-at-none (top_visits table c.args.root.now.0) c.args.root.now.0 (visits.missing c.args.root.now.0) (missing-visits table c.args.root.now.0 c.if-eq.ensures none)
-    (loaded-one g.T.Texts.alike g.T.Texts.load_count g.T.Texts.faults g.T.Texts.kept c.args.store.now c.load.follows.lender-at-none c.args.root.now.0 c.load.result g.met.T.Texts.alike_itself g.met.T.Texts.alike_onward left.0 left.1)
+pub returns-in_err-text-clause-answer : goal.returns-in_err-text-clause-answer
+returns-in_err-text-clause-answer g c =
+    let table = g.T.Texts.store.texts c.args.store.now in
+    let top = c.args.root.now in
+    let new = c.load_text.follows.lender-at-none in
+    let error = c.in_err-text.field-0.0 in
+    let left = subst (λ r. Leaves g.T.Texts.store c.args.store.now new (top.0 ∷ []) (read_ended {X = Bor (List ℕ)} r)) c.in_err-text.was c.load_text.follows.holds-at-none in
+    let all = passed_on (Answered g.T.Texts.store c.args.store.now new table top.0) c.from_residual.result error c.from_residual.ensures.1
+    (answered-stopped g.T.Texts.store c.args.store.now new table top error c.if-eq.ensures (stopped-text table top 0 false error c.in_err-text.ensures.answer) left) in
+    all.answers
 
-pub returns-in-Ok-None-clause-answer : goal.returns-in-Ok-None-clause-answer
-returns-in-Ok-None-clause-answer g c =
-    let none = sym (ap option_copied c.in-Ok-None.field-0-is) ∙ c.in-Ok-None.ensures.value in
-    ap (λ (v : Visits). v.refusal) (missing-visits (g.T.Texts.texts c.args.store.now) c.args.root.now.0 c.if-eq.ensures none)
+pub returns-in_err-text-clause-state : goal.returns-in_err-text-clause-state
+returns-in_err-text-clause-state g c =
+    let table = g.T.Texts.store.texts c.args.store.now in
+    let top = c.args.root.now in
+    let new = c.load_text.follows.lender-at-none in
+    let error = c.in_err-text.field-0.0 in
+    let left = subst (λ r. Leaves g.T.Texts.store c.args.store.now new (top.0 ∷ []) (read_ended {X = Bor (List ℕ)} r)) c.in_err-text.was c.load_text.follows.holds-at-none in
+    let all = passed_on (Answered g.T.Texts.store c.args.store.now new table top.0) c.from_residual.result error c.from_residual.ensures.1
+    (answered-stopped g.T.Texts.store c.args.store.now new table top error c.if-eq.ensures (stopped-text table top 0 false error c.in_err-text.ensures.answer) left) in
+    usage-state table top.0 c.from_residual.result all.answers
 
-pub returns-in-Ok-None-clause-state : goal.returns-in-Ok-None-clause-state
-returns-in-Ok-None-clause-state g c =
-    let table = g.T.Texts.texts c.args.store.now in
-    let none = sym (ap option_copied c.in-Ok-None.field-0-is) ∙ c.in-Ok-None.ensures.value in
-    usage-state table c.args.root.now.0 (Err (Missing c.args.root.now)) (ap (λ (v : Visits). v.refusal) (missing-visits table c.args.root.now.0 c.if-eq.ensures none))
+pub returns-in_err-usage-clause-after : goal.returns-in_err-usage-clause-after
+returns-in_err-usage-clause-after g c =
+    let table = g.T.Texts.store.texts c.args.store.now in
+    let top = c.args.root.now in
+    let new = c.load_text.follows.lender-at-none in
+    let error = c.in_err-usage.field-0.0 in
+    let read = subst (λ r. Leaves g.T.Texts.store c.args.store.now new (top.0 ∷ []) (read_ended {X = Bor (List ℕ)} r)) c.in_ok-text.was c.load_text.follows.holds-at-none in
+    let left = subst (λ e. Leaves g.T.Texts.store c.args.store.now new (top.0 ∷ []) (by_error e)) (sym c.in_err-usage.ensures.0) (Leaves-refused g.T.Texts.store c.args.store.now new (top.0 ∷ []) read) in
+    let all = passed_on (Answered g.T.Texts.store c.args.store.now new table top.0) c.from_residual-in_err-usage.result error c.from_residual-in_err-usage.ensures.1
+    (answered-stopped g.T.Texts.store c.args.store.now new table top error c.if-eq.ensures (stopped-node table top 0 false c.in_ok-text.text.now error c.in_ok-text.ensures.answer c.in_err-usage.ensures) left) in
+    all.leaves
 
-pub returns-in-Some-clause-after : goal.returns-in-Some-clause-after
-returns-in-Some-clause-after g c =
-    let table = g.T.Texts.texts c.args.store.now in
-    let left = c.load.follows.holds-at-none in
-    let found = c.in-Ok-Some.is ∙ ap Ok c.in-Ok-Some.field-0-is in
-    let text = sym (ap option_copied c.in-Ok-Some.field-0-is) ∙ c.in-Ok-Some.ensures.value in
-    leaves_node g.T.Texts.alike g.T.Texts.load_count g.T.Texts.faults g.T.Texts.kept c.args.store.now c.load.follows.lender-at-none (top_visits table c.args.root.now.0) c.args.root.now.0 c.in-Some.usage (node-visits table c.args.root.now.0 c.in-Ok-Some.text.now c.in-Some.usage c.if-eq.ensures text c.in-Some.ensures)
-    (visited-some g.T.Texts.alike g.T.Texts.load_count g.T.Texts.faults g.T.Texts.kept c.args.store.now c.load.follows.lender-at-none c.args.root.now.0 c.load.result c.in-Ok-Some.text c.in-Some.usage g.met.T.Texts.alike_itself g.met.T.Texts.alike_onward left.0 left.1 found)
+pub returns-in_err-usage-clause-answer : goal.returns-in_err-usage-clause-answer
+returns-in_err-usage-clause-answer g c =
+    let table = g.T.Texts.store.texts c.args.store.now in
+    let top = c.args.root.now in
+    let new = c.load_text.follows.lender-at-none in
+    let error = c.in_err-usage.field-0.0 in
+    let read = subst (λ r. Leaves g.T.Texts.store c.args.store.now new (top.0 ∷ []) (read_ended {X = Bor (List ℕ)} r)) c.in_ok-text.was c.load_text.follows.holds-at-none in
+    let left = subst (λ e. Leaves g.T.Texts.store c.args.store.now new (top.0 ∷ []) (by_error e)) (sym c.in_err-usage.ensures.0) (Leaves-refused g.T.Texts.store c.args.store.now new (top.0 ∷ []) read) in
+    let all = passed_on (Answered g.T.Texts.store c.args.store.now new table top.0) c.from_residual-in_err-usage.result error c.from_residual-in_err-usage.ensures.1
+    (answered-stopped g.T.Texts.store c.args.store.now new table top error c.if-eq.ensures (stopped-node table top 0 false c.in_ok-text.text.now error c.in_ok-text.ensures.answer c.in_err-usage.ensures) left) in
+    all.answers
 
-pub returns-in-Some-clause-answer : goal.returns-in-Some-clause-answer
-returns-in-Some-clause-answer g c =
-    let text = sym (ap option_copied c.in-Ok-Some.field-0-is) ∙ c.in-Ok-Some.ensures.value in
-    node-usage (g.T.Texts.texts c.args.store.now) c.args.root.now.0 c.in-Ok-Some.text.now c.in-Some.usage c.if-eq.ensures text c.in-Some.ensures
+pub returns-in_err-usage-clause-state : goal.returns-in_err-usage-clause-state
+returns-in_err-usage-clause-state g c =
+    let table = g.T.Texts.store.texts c.args.store.now in
+    let top = c.args.root.now in
+    let new = c.load_text.follows.lender-at-none in
+    let error = c.in_err-usage.field-0.0 in
+    let read = subst (λ r. Leaves g.T.Texts.store c.args.store.now new (top.0 ∷ []) (read_ended {X = Bor (List ℕ)} r)) c.in_ok-text.was c.load_text.follows.holds-at-none in
+    let left = subst (λ e. Leaves g.T.Texts.store c.args.store.now new (top.0 ∷ []) (by_error e)) (sym c.in_err-usage.ensures.0) (Leaves-refused g.T.Texts.store c.args.store.now new (top.0 ∷ []) read) in
+    let all = passed_on (Answered g.T.Texts.store c.args.store.now new table top.0) c.from_residual-in_err-usage.result error c.from_residual-in_err-usage.ensures.1
+    (answered-stopped g.T.Texts.store c.args.store.now new table top error c.if-eq.ensures (stopped-node table top 0 false c.in_ok-text.text.now error c.in_ok-text.ensures.answer c.in_err-usage.ensures) left) in
+    usage-state table top.0 c.from_residual-in_err-usage.result all.answers
 
-pub returns-in-Some-clause-state : goal.returns-in-Some-clause-state
-returns-in-Some-clause-state g c =
-    let table = g.T.Texts.texts c.args.store.now in
-    let text = sym (ap option_copied c.in-Ok-Some.field-0-is) ∙ c.in-Ok-Some.ensures.value in
-    usage-state table c.args.root.now.0 (Ok c.in-Some.usage) (node-usage table c.args.root.now.0 c.in-Ok-Some.text.now c.in-Some.usage c.if-eq.ensures text c.in-Some.ensures)
+pub returns-clause-after : goal.returns-clause-after
+returns-clause-after g c =
+    let table = g.T.Texts.store.texts c.args.store.now in
+    let top = c.args.root.now in
+    let new = c.load_text.follows.lender-at-none in
+    let found = c.in_ok-usage.field-0-0 in
+    let usage = c.in_ok-usage.usage in
+    let left = subst (λ r. Leaves g.T.Texts.store c.args.store.now new (top.0 ∷ []) (read_ended {X = Bor (List ℕ)} r)) c.in_ok-text.was c.load_text.follows.holds-at-none in
+    let held = held-node table 0 false top.0 c.in_ok-text.text.now (Some (node_viewed found, usage)) c.in_ok-text.ensures.answer c.in_ok-usage.ensures in
+    let all = answered-node g.T.Texts.store c.args.store.now new table top.0 (node_viewed found) usage c.if-eq.ensures held left in
+    all.leaves
 
-pub returns-in-None-clause-after : goal.returns-in-None-clause-after
-returns-in-None-clause-after g c =
-    let table = g.T.Texts.texts c.args.store.now in
-    let left = c.load.follows.holds-at-none in
-    let text = sym (ap option_copied c.in-Ok-Some.field-0-is) ∙ c.in-Ok-Some.ensures.value in
-    leaves_refused g.T.Texts.alike g.T.Texts.load_count g.T.Texts.faults c.args.store.now c.load.follows.lender-at-none (top_visits table c.args.root.now.0) c.args.root.now.0 (visits.bad c.args.root.now.0) (bad-visits table c.args.root.now.0 c.in-Ok-Some.text.now c.if-eq.ensures text c.in-None.ensures)
-    (loaded-one g.T.Texts.alike g.T.Texts.load_count g.T.Texts.faults g.T.Texts.kept c.args.store.now c.load.follows.lender-at-none c.args.root.now.0 c.load.result g.met.T.Texts.alike_itself g.met.T.Texts.alike_onward left.0 left.1)
+pub returns-clause-answer : goal.returns-clause-answer
+returns-clause-answer g c =
+    let table = g.T.Texts.store.texts c.args.store.now in
+    let top = c.args.root.now in
+    let new = c.load_text.follows.lender-at-none in
+    let found = c.in_ok-usage.field-0-0 in
+    let usage = c.in_ok-usage.usage in
+    let left = subst (λ r. Leaves g.T.Texts.store c.args.store.now new (top.0 ∷ []) (read_ended {X = Bor (List ℕ)} r)) c.in_ok-text.was c.load_text.follows.holds-at-none in
+    let held = held-node table 0 false top.0 c.in_ok-text.text.now (Some (node_viewed found, usage)) c.in_ok-text.ensures.answer c.in_ok-usage.ensures in
+    let all = answered-node g.T.Texts.store c.args.store.now new table top.0 (node_viewed found) usage c.if-eq.ensures held left in
+    all.answers
 
-pub returns-in-None-clause-answer : goal.returns-in-None-clause-answer
-returns-in-None-clause-answer g c =
-    let text = sym (ap option_copied c.in-Ok-Some.field-0-is) ∙ c.in-Ok-Some.ensures.value in
-    ap (λ (v : Visits). v.refusal) (bad-visits (g.T.Texts.texts c.args.store.now) c.args.root.now.0 c.in-Ok-Some.text.now c.if-eq.ensures text c.in-None.ensures)
-
-pub returns-in-None-clause-state : goal.returns-in-None-clause-state
-returns-in-None-clause-state g c =
-    let table = g.T.Texts.texts c.args.store.now in
-    let text = sym (ap option_copied c.in-Ok-Some.field-0-is) ∙ c.in-Ok-Some.ensures.value in
-    usage-state table c.args.root.now.0 (Err (Bad c.args.root.now)) (ap (λ (v : Visits). v.refusal) (bad-visits table c.args.root.now.0 c.in-Ok-Some.text.now c.if-eq.ensures text c.in-None.ensures))
+pub returns-clause-state : goal.returns-clause-state
+returns-clause-state g c =
+    let table = g.T.Texts.store.texts c.args.store.now in
+    let top = c.args.root.now in
+    let new = c.load_text.follows.lender-at-none in
+    let found = c.in_ok-usage.field-0-0 in
+    let usage = c.in_ok-usage.usage in
+    let left = subst (λ r. Leaves g.T.Texts.store c.args.store.now new (top.0 ∷ []) (read_ended {X = Bor (List ℕ)} r)) c.in_ok-text.was c.load_text.follows.holds-at-none in
+    let held = held-node table 0 false top.0 c.in_ok-text.text.now (Some (node_viewed found, usage)) c.in_ok-text.ensures.answer c.in_ok-usage.ensures in
+    let all = answered-node g.T.Texts.store c.args.store.now new table top.0 (node_viewed found) usage c.if-eq.ensures held left in
+    usage-state table top.0 (Ok usage) all.answers

@@ -1,5 +1,5 @@
 use Rattle.std.proofs.Common.{rules, ◌≢◌, ◌<◌, ◌≤◌, length, ◌∙◌, sym, arith}
-use Rattle.trie_read.proofs.Bounded.{child-free, child-below, child-same, child-above}
+use Rattle.trie_read.proofs.Bounds.{child-free, child-below, child-same, child-above}
 use Rattle.trie_read.proofs.walk.child_bound.Goals as goal
 
 pub returns-then-len-eq0 : goal.returns-then-len-eq0

@@ -1,6 +1,6 @@
 use Rattle.std.proofs.Common.{rules, ◌≡◌, suc, ◌-◌, ◌<◌, subst, arith}
 use Rattle.node_codec.specs.Children.{children_viewed}
-use Rattle.trie_read.proofs.Taking.{TakenUp, taken-more, taken-none, taken-all}
+use Rattle.trie_read.proofs.Children.{TakenUp, taken-more, taken-none, taken-all}
 use Rattle.trie_read.proofs.walk.push_children.Goals as goal
 
 pub loop-nibble-preserved-in-Continue-1 : goal.loop-nibble-preserved-in-Continue-1

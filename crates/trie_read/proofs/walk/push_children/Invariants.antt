@@ -1,5 +1,5 @@
 use Rattle.node_codec.specs.Children.{children_viewed}
-use Rattle.trie_read.proofs.Taking.{TakenUp}
+use Rattle.trie_read.proofs.Children.{TakenUp}
 use Rattle.trie_read.proofs.walk.push_children.Given as goal
 
 abbrev pub invariant-loop-nibble : goal.invariant-loop-nibble

@@ -1,5 +1,5 @@
 use Rattle.std.proofs.Common.{rules, ◌≡◌, ◌≢◌, ◌<◌, ◌≤◌, length, ◌∙◌, arith}
-use Rattle.trie_read.proofs.Bounded.{side-above, side-within, side-below_at, side-above_at}
+use Rattle.trie_read.proofs.Bounds.{side-above, side-within, side-below_at, side-above_at}
 use Rattle.trie_read.proofs.walk.side_of.Goals as goal
 
 pub returns-then-shared-len : goal.returns-then-shared-len

@@ -1,7 +1,7 @@
 use Rattle.std.proofs.Common.{rules, ◌≡◌, ◌≢◌, length, refl, sym, ◌∙◌, subst, inl, inr, None}
 use Rattle.node_codec.specs.Children.{children_viewed}
 use Rattle.trie_read.specs.declared.walk.Walk.{Walk}
-use Rattle.trie_read.proofs.Entering.{Pushed, StaysStacked, branch-entered}
+use Rattle.trie_read.proofs.Entries.{Pushed, StaysStacked, branch-entered}
 use Rattle.trie_read.proofs.walk.Walk.enter_branch.Goals as goal
 
 pub returns-then-len-eq0 : goal.returns-then-len-eq0

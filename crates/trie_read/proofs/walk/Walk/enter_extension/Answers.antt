@@ -1,7 +1,7 @@
 use Rattle.std.proofs.Common.{ℕ, List, [], true, false, drop, length, refl, subst}
 use Rattle.trie_read.specs.declared.walk.Side.TheVariants.{Below, Within, Above}
 use Rattle.trie_read.specs.Walks.{IsSide}
-use Rattle.trie_read.proofs.Entering.{extension-passed, extension-entered, on_ok}
+use Rattle.trie_read.proofs.Entries.{extension-passed, extension-entered, on_ok}
 use Rattle.trie_read.proofs.walk.Walk.enter_extension.Goals as goal
 
 pub returns-in-Below : goal.returns-in-Below

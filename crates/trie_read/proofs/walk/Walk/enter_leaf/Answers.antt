@@ -1,7 +1,7 @@
 use Rattle.std.proofs.Common.{ℕ, List, refl, subst}
 use Rattle.trie_read.specs.declared.walk.Side.TheVariants.{Below, Within, Above}
 use Rattle.trie_read.specs.Walks.{IsSide}
-use Rattle.trie_read.proofs.Entering.{leaf-passed, passed-below, passed-within, leaf-entered}
+use Rattle.trie_read.proofs.Entries.{leaf-passed, passed-below, passed-within, leaf-entered}
 use Rattle.trie_read.proofs.walk.Walk.enter_leaf.Goals as goal
 
 pub returns-in-Below : goal.returns-in-Below
