@@ -1,8 +1,6 @@
 -- What a loop over pairs of nibbles writes, and a packed path by whether its length is even.
 use Rattle.std.proofs.Common.{ℕ, zero, suc, ◌+◌, ◌*◌, ◌%◌, ◌<◌, ◌≡◌, Bool, true, cond, List, [], ◌∷◌, ◌++◌, length, take, drop, get_or, refl, ap, arith, eqb}
 use Rattle.std.proofs.lemmas.Bool.{eq-eqb}
-use Rattle.std.proofs.lemmas.List.Elements.{All-get_or, All-from_recursion}
-use Rattle.byte_model.specs.Nibbles.{AreNibbles}
 use Rattle.byte_model.specs.PackedPath.{packed, packed_behind, two_to_a_byte, leaf_flag, odd_flag}
 
 pub two_to_a_byte-more : (path : List ℕ) (i : ℕ) → 2 * i + 1 < length path → two_to_a_byte (take (2 * (i + 1)) path) ≡ two_to_a_byte (take (2 * i) path) ++ (16 * get_or path (2 * i) 0 + get_or path (2 * i + 1) 0) ∷ []

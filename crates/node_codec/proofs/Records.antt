@@ -7,7 +7,7 @@ use Rattle.record_model.specs.Records.{RecordFault, IsRecord, HasNibblesOnly, re
 use Rattle.record_model.proofs.Nodes.{record_in-found, record_in-only}
 use Rattle.node_codec.specs.declared.node_error.NodeError.{NodeError}
 use Rattle.node_codec.specs.declared.node_view.NodeView.{NodeView}
-use Rattle.node_codec.specs.Views.{Answers, node_viewed, fault_of}
+use Rattle.node_codec.specs.Views.{Answers, node_viewed}
 
 -- the node and the usage were read
 abbrev IsReadAs : Node → ℕ → Result (Node × ℕ) RecordFault → Type 0

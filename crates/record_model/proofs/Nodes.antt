@@ -6,7 +6,7 @@ use Rattle.byte_model.specs.Nibbles.{AreBytes, AreNibbles}
 use Rattle.byte_model.specs.PackedPath.{packed}
 use Rattle.byte_model.specs.Borsh.{borsh_u64}
 use Rattle.byte_model.specs.Node as node
-use Rattle.byte_model.specs.Node.{Node, spelled, spelled_value, child_count, longest_value, IsShaped}
+use Rattle.byte_model.specs.Node.{Node, spelled, spelled_value, IsShaped}
 use Rattle.byte_model.specs.Laws.{FitsRecord, SameNode}
 use Rattle.byte_model.proofs.Spellings.{spelled-same}
 use Rattle.record_model.specs.Fields.{FrameFault, Cursor, start_of, end_of}

@@ -1,6 +1,6 @@
 -- What lies below a path: rests of paths, and rows with their rests.
-use Rattle.std.proofs.Common.{append_assoc, append-nil, ◌≢◌, ◌≡◌, ℕ, ◌==◌, true, false, List, [], ◌∷◌, ◌++◌, map, None, Some, option_map, option_and_then, ap₂, refl, sym, ◌∙◌, ap, arith, if◌then◌else◌}
-use Rattle.std.specs.List.{cons_option, AllByRecursion}
+use Rattle.std.proofs.Common.{append_assoc, append-nil, ◌≢◌, ◌≡◌, ℕ, ◌==◌, true, false, List, [], ◌∷◌, ◌++◌, None, Some, option_map, option_and_then, ap₂, refl, sym, ◌∙◌, ap, arith, if◌then◌else◌}
+use Rattle.std.specs.List.{cons_option}
 use Rattle.std.proofs.lemmas.Bool.Decides.{nat_tests}
 use Rattle.byte_model.proofs.Lists.{first_same, rest_same, AllByRecursion-weaker}
 use Rattle.trie_model.specs.State.{Row}

@@ -10,7 +10,7 @@ use Rattle.byte_model.specs.Below.{sum_below}
 use Rattle.byte_model.specs.Nibbles.{AreNibbles}
 use Rattle.byte_model.proofs.Digits.{AreNibbles-prefix}
 use Rattle.byte_model.specs.Node as node
-use Rattle.byte_model.specs.Node.{Node, ValueRef, IsShaped, child_count, longest_value}
+use Rattle.byte_model.specs.Node.{Node, IsShaped, child_count, longest_value}
 use Rattle.byte_model.specs.Laws.{IsDigest, NamesValue, FitsRecord}
 use Rattle.trie_model.specs.State.{State, Row, IsPair, IsState, rows_of}
 use Rattle.trie_model.specs.Tree.{Tree, nothing, leaf, branch, extension, rest_behind, below, ends_here, common, common_prefix, tree_of}

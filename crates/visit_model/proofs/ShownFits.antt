@@ -8,7 +8,7 @@ use Rattle.std.proofs.lemmas.Bool.Decides.{nat_tests}
 use Rattle.std.proofs.lemmas.List.{append_cancel_left}
 use Rattle.byte_model.specs.PackedPath.{longest_path, packed}
 use Rattle.byte_model.specs.Node as node
-use Rattle.byte_model.specs.Node.{Node, ValueRef, IsShaped, spelled, longest_value, child_count}
+use Rattle.byte_model.specs.Node.{Node, IsShaped, spelled}
 use Rattle.byte_model.specs.Laws.{FitsRecord}
 use Rattle.byte_model.proofs.Digits.{length-nibbles}
 use Rattle.byte_model.proofs.Paths.{length-packed}

@@ -14,7 +14,7 @@ use Rattle.trie_model.proofs.Costs.{subtree_at-root, texts_of-tree_texts}
 use Rattle.trie_model.proofs.Members.{IsIn, in-append_left, all_at}
 use Rattle.trie_model.proofs.Places.{tree_texts}
 use Rattle.visit_model.specs.Seen as seen
-use Rattle.visit_model.specs.Seen.{Seen, seen_at, seen}
+use Rattle.visit_model.specs.Seen.{seen_at, seen}
 use Rattle.visit_model.specs.Shown.{shown}
 use Rattle.visit_model.proofs.ShownFits.{IsThere, state_fits}
 use Rattle.visit_model.proofs.ShownTrees.{top_text, tree_seen}

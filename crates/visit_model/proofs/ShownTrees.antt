@@ -18,7 +18,7 @@ use Rattle.trie_model.specs.Root.{Table}
 use Rattle.trie_model.proofs.Members.{IsIn, in-joined_below}
 use Rattle.trie_model.proofs.Places.{gathered, tree_texts}
 use Rattle.visit_model.specs.Seen as seen
-use Rattle.visit_model.specs.Seen.{Seen, seen_child, seen_node, seen_record, seen_text, seen_at}
+use Rattle.visit_model.specs.Seen.{seen_child, seen_node, seen_record, seen_text, seen_at}
 use Rattle.visit_model.specs.Shown.{shown}
 use Rattle.visit_model.proofs.SeenBounds.{seen_at-seen_text, place_fits, branch_room, extension_room}
 use Rattle.visit_model.proofs.ShownFits.{IsThere, FitsBelow}
