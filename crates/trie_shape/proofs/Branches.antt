@@ -21,7 +21,7 @@ use Rattle.trie_shape.specs.Runs.{Rises, StartsFrom, AllFrom, run_of, tails, pre
 use Rattle.trie_shape.specs.RowsAt.{Lent, row_at, rows_at, IsRowAt, AreRowsAt, IsLeft}
 use Rattle.trie_shape.specs.Shows.{IsName, child_of, IsBranchOf}
 use Rattle.trie_shape.proofs.Runs.{rising, rises, after-run, below-run, below-after, rising-drop}
-use Rattle.trie_shape.proofs.Kept.{HasShortPath, AreKept}
+use Rattle.trie_shape.proofs.SoundRows.{HasShortPath, AreSound}
 use Rattle.trie_shape.proofs.Shows.{usage-forks}
 
 -- ---- rows and their parts, as pairs have them
@@ -180,8 +180,8 @@ nibbles_at : (depth : ℕ) (rows : List Lent) → AllByRecursion (IsRowAt depth)
 nibbles_at depth [] h = tt
 nibbles_at depth (row ∷ rows) h = (AllByRecursion-drop (λ nibble. nibble < 16) depth (nibbles row.0.now) h.0.nibbles, nibbles_at depth rows h.1)
 
-pub kept-rows_at : (depth : ℕ) (rows : List Lent) → AreRowsAt depth rows → AreKept (rows_at depth rows)
-kept-rows_at depth rows h = record { rise = rising (rows_at depth rows) h.rises; nibbles = nibbles_at depth rows h.each; paths = short_at depth rows h.each; values = values_at depth rows h.each }
+pub sound-rows_at : (depth : ℕ) (rows : List Lent) → AreRowsAt depth rows → AreSound (rows_at depth rows)
+sound-rows_at depth rows h = record { rise = rising (rows_at depth rows) h.rises; nibbles = nibbles_at depth rows h.each; paths = short_at depth rows h.each; values = values_at depth rows h.each }
 
 -- ---- a turn of the loop, where the rows were split behind the run
 

@@ -1,6 +1,6 @@
 pub mod Runs
 pub mod Prefixes
-pub mod Kept
+pub mod SoundRows
 pub mod Shows
 pub mod RowsAt
 pub mod Branches

@@ -20,7 +20,7 @@ use Rattle.trie_shape.specs.declared.sub.Sub.{Sub}
 use Rattle.trie_shape.specs.declared.sub.Sub.TheVariants.{Empty, Leaf, Branch, Extension}
 use Rattle.trie_shape.specs.Shows.{Shows, MayClose, under_of, top_node, usage_of, digest_of, IsRead, IsRecord, IsTop, IsName, child_of, AreChildren, IsBranchOf}
 use Rattle.trie_shape.specs.Runs.{DoFork}
-use Rattle.trie_shape.proofs.Kept.{IsSound, tree-forks}
+use Rattle.trie_shape.proofs.SoundRows.{IsSound, tree-forks}
 
 -- ---- the four ways to show a trie
 

@@ -20,7 +20,7 @@ use Rattle.trie_shape.specs.Runs.{Rises}
 use Rattle.trie_shape.specs.RowsAt.{Lent, rows_at, IsRowAt, AreRowsAt}
 use Rattle.trie_shape.specs.Shows.{Shows, MayClose, IsName, IsBranchOf}
 use Rattle.trie_shape.proofs.Runs.{rises}
-use Rattle.trie_shape.proofs.Kept.{kept-below, kept-rows_of, sound-tree_of, shaped-forks}
+use Rattle.trie_shape.proofs.SoundRows.{sound-below, sound-rows_of, sound-tree_of, shaped-forks}
 use Rattle.trie_shape.proofs.Shows.{may_close}
 
 abbrev Entry : Type 0
@@ -86,7 +86,7 @@ module _ (held : PairMap) (rows : List Lent) (is : IsPairMap held) (e : lent row
 
 pub place-may_close : (state : State) → IsState state → (place : List ℕ) (sub : Sub) → Shows sub (subtree_at state place) → MayClose sub
 unfolding subtree_at
-place-may_close state is place sub h = may_close sub (tree_of (below place (rows_of state))) h (sound-tree_of (below place (rows_of state)) (kept-below place (rows_of state) (kept-rows_of state is)))
+place-may_close state is place sub h = may_close sub (tree_of (below place (rows_of state))) h (sound-tree_of (below place (rows_of state)) (sound-below place (rows_of state) (sound-rows_of state is)))
 
 pub place-shaped : (state : State) → IsState state → (place : List ℕ) (value : Option ValueOfRecord) (kids : ℕ → Option (List ℕ)) (used : ℕ) → IsBranchOf (below place (rows_of state)) value kids used → IsShaped (node.branch value kids)
-place-shaped state is place = shaped-forks (below place (rows_of state)) (kept-below place (rows_of state) (kept-rows_of state is))
+place-shaped state is place = shaped-forks (below place (rows_of state)) (sound-below place (rows_of state) (sound-rows_of state is))

@@ -18,7 +18,7 @@ use Rattle.trie_shape.specs.RowsAt.{Lent, row_at, rows_at, IsRowAt, AreRowsAt}
 use Rattle.trie_shape.specs.Shows.{Shows}
 use Rattle.trie_shape.proofs.Runs.{rising, rises}
 use Rattle.trie_shape.proofs.Prefixes.{dropped, rest_of, all-prefix, tree-rest, rising-rest, rest-apart}
-use Rattle.trie_shape.proofs.Kept.{tree-forks}
+use Rattle.trie_shape.proofs.SoundRows.{tree-forks}
 use Rattle.trie_shape.proofs.Branches.{forks}
 
 -- ---- no row, and one

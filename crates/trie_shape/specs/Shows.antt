@@ -1,4 +1,4 @@
--- What a subtree whose top record is not yet written stands for, and what a record that was written does.
+-- What a subtree stands for while the record of its top is not made, and what a record stands for.
 use Rattle.std.specs.Prelude.{◌≡◌, ℕ, ◌+◌, ◌<◌, ◌≤◌, List, [], ◌∷◌, ◌++◌, length, Option, None, Some, option_map, ⊤}
 use Rattle.std.specs.Option.{ForSome}
 use Rattle.sha2.specs.Sha256.{sha256}

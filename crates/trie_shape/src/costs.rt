@@ -15,8 +15,8 @@ const PATH_BYTE_COST: u64 = 2;
 
 const VALUE_COST: u64 = 50;
 
-/// What a node costs by itself: 50, two for each byte of its packed path, and with a value 50 and
-/// one for each byte of it. A cost past the end of eight bytes, which no record can have, stops
+/// The price of a node without what is below it: 50 for the node, 2 a byte for its packed path, and
+/// for a value 50 and 1 a byte. A price past the end of eight bytes, which no record can have, stops
 /// there. It takes no memory.
 #[tactic(auto, unfolding(byte_model::specs::Node::own_cost))]
 pub fn own_cost(view: &NodeView<'_>) -> u64

@@ -13,10 +13,9 @@ const LONGEST_PATH: u64 = 2 * LONGEST_KEY;
 /// Whether a node may stand below so many nibbles, as the child of an extension or not. It takes no
 /// memory.
 ///
-/// A key ends at a whole byte and has at most 4,228 nibbles, a branch or an extension leaves room
-/// for one nibble more, and neither leaf nor extension is the child of an extension. At any place a
-/// value is within its limit, a branch has two of children and value at least, and an extension is
-/// not empty.
+/// Where a key ends, its nibbles are those of whole bytes and no more than the longest key has.
+/// Where keys go on, one nibble more has room. What an extension leads to is a branch. The shape of
+/// the node itself is asked for at every place.
 #[tactic(auto, unfolding(record_model::specs::Fits::has_place))]
 pub fn fits(view: &NodeView<'_>, depth: u64, after_extension: bool) -> bool
     ensures { result ≡ fits_at depth after_extension (node_viewed view.now) }

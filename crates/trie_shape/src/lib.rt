@@ -1,5 +1,5 @@
-//! The canonical trie of a list of pairs: subtrees whose top record is not yet written, the records
-//! of their top places, and the root and usage of a whole state.
+//! How the one trie of some pairs is put together: its parts and how they join, their records,
+//! digests and usages, the root of a whole state, and where a node fits.
 #![tactic(auto)]
 
 mod building;

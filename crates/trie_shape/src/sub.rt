@@ -14,7 +14,8 @@ use base_core::{Digest, Text, Writer};
 use node_codec::ValueRef;
 use std::alloc::{AllocError, Global};
 
-/// A canonical subtree whose top record is not yet written. Its paths are nibbles, one to a byte.
+/// A part of a trie with its top still open, so that it can go further down before the record of
+/// its top is made. Its paths are nibbles, one to a byte.
 #[derive(Debug, Drop)]
 pub enum Sub {
     /// No pair.
@@ -41,8 +42,8 @@ impl Sub {
     ghost use Rattle.trie_shape.specs.declared.close_error.CloseError.TheVariants.{Usage};
     ghost use Rattle.trie_shape.specs.Shows.{Shows, under_of, top_node, path_of, usage_of, digest_of, IsRecord, IsTop, IsName};
 
-    /// Puts nibbles before it: a path grows, a branch becomes the child of an extension, and no
-    /// nibbles change nothing.
+    /// Moves it down below some nibbles: they stand in front of its path, and above a branch as an
+    /// extension of their own. With none of them it stays as it is.
     pub fn under(self, alloc: Global, nibbles: &[u8]) -> Result<Sub, AllocError>
         ensures value { IfOk result (λ sub. sub ≡ under_of nibbles.now self) }
         ensures shows { IfOk result (λ sub. (tree : Tree) → Shows self tree → Shows sub (grown nibbles.now tree)) }
@@ -74,8 +75,8 @@ impl Sub {
         }
     }
 
-    /// Writes the record of a leaf or an extension. There is none to write for no pair, and a
-    /// branch has its record already.
+    /// The record of the leaf or extension at its top. None is made where it has no pair, and none
+    /// of a branch, whose record was made before.
     pub fn close(self, alloc: Global) -> Result<Option<Closed>, CloseError>
         requires nibbles { AreNibbles (path_of self) }
         requires short { length (path_of self) ≤ longest_path }

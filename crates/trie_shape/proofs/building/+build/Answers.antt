@@ -7,8 +7,8 @@ use Rattle.node_codec.specs.Meanings.{value_of, children_in}
 use Rattle.trie_shape.specs.RowsAt.{rows_at}
 use Rattle.trie_shape.proofs.Runs.{run-short}
 use Rattle.trie_shape.specs.Shows.{IsBranchOf}
-use Rattle.trie_shape.proofs.Branches.{gathered-none, length-rows_at, kept-rows_at, turn-rows, turn-fits, turn-adds, turn-more, IsGathered, end-branch, forks}
-use Rattle.trie_shape.proofs.Kept.{sound-tree_of, shaped-forks}
+use Rattle.trie_shape.proofs.Branches.{gathered-none, length-rows_at, sound-rows_at, turn-rows, turn-fits, turn-adds, turn-more, IsGathered, end-branch, forks}
+use Rattle.trie_shape.proofs.SoundRows.{sound-tree_of, shaped-forks}
 use Rattle.trie_shape.proofs.Shows.{may_close, usage-shown, branch-uses}
 use Rattle.trie_shape.proofs.Subtrees.{empty-shown, one-shown, shared-prefix, deeper-short, deeper-rows, deeper-apart, deeper-fits, deep-first, several-shown}
 use Rattle.std.proofs.lemmas.Result.{IfOk-weaker}
@@ -58,7 +58,7 @@ branch-fork_of-requires t c =
     let value = option_map value_of c.ending-value.result.0 in
     let kids = children_in c.loop-nibble.kids.value in
     let is = end-branch c.args.depth c.args.rows.now c.loop-nibble.rest.now c.loop-nibble.nibble c.loop-nibble.kids.value c.loop-nibble.kids_usage done c.loop-nibble.invariant c.requires.forks value c.ending-value.ensures.value in
-    let shaped = shaped-forks rows (kept-rows_at c.args.depth c.args.rows.now c.requires.rows) value kids c.loop-nibble.kids_usage is in
+    let shaped = shaped-forks rows (sound-rows_at c.args.depth c.args.rows.now c.requires.rows) value kids c.loop-nibble.kids_usage is in
     let uses = branch-uses rows value kids c.loop-nibble.kids_usage is in
     let whole = c.requires.fits in
     let fits : own_cost (node.branch value kids) + c.loop-nibble.kids_usage < 2 ^ 64 = omega arith in
@@ -81,7 +81,7 @@ named-name_of-requires t c =
     let shows = c.in_ok-sub.ensures in
     let same = usage-shown c.in_ok-sub.sub (tree_of rows) shows in
     let fits = c.requires.fits in
-    record { closes = may_close c.in_ok-sub.sub (tree_of rows) shows (sound-tree_of rows (kept-rows_at c.args.depth c.args.rows.now c.requires.rows)); fits = omega arith }
+    record { closes = may_close c.in_ok-sub.sub (tree_of rows) shows (sound-tree_of rows (sound-rows_at c.args.depth c.args.rows.now c.requires.rows)); fits = omega arith }
 
 pub named-returns : goal.named-returns
 named-returns t c = IfOk-weaker c.name_of.result _ _ (λ name is. is _ c.in_ok-sub.ensures) c.name_of.ensures

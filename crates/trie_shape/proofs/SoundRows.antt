@@ -28,7 +28,7 @@ abbrev pub HasShortPath : Row → Type 0
 HasShortPath row = length row.0 ≤ longest_path
 
 -- paths of nibbles that rise, and both path and value within their limits
-pub record AreKept (rows : List Row) : Type 0 where
+pub record AreSound (rows : List Row) : Type 0 where
   pub rise : RisingRows rows
   pub nibbles : Small rows
   pub paths : AllByRecursion HasShortPath rows
@@ -44,16 +44,16 @@ short_paths : (state : State) → IsState state → AllByRecursion HasShortPath 
 unfolding rows_of
 short_paths state is = short_pairs (entries state) is.pairs
 
-pub kept-below : (prefix : List ℕ) (rows : List Row) → AreKept rows → AreKept (below prefix rows)
-kept-below prefix rows h = record {
+pub sound-below : (prefix : List ℕ) (rows : List Row) → AreSound rows → AreSound (below prefix rows)
+sound-below prefix rows h = record {
   rise = rising-below prefix rows h.rise;
   nibbles = small-below prefix rows h.nibbles;
   paths = all-below HasShortPath HasShortPath prefix (λ row rest e short. let shorter = length-rest_behind prefix row.0 rest e in omega arith) rows h.paths;
   values = short-below prefix rows h.values;
 }
 
-pub kept-rows_of : (state : State) → IsState state → AreKept (rows_of state)
-kept-rows_of state is = record { rise = rising-rows_of state; nibbles = small-rows_of state is; paths = short_paths state is; values = short-rows_of state is }
+pub sound-rows_of : (state : State) → IsState state → AreSound (rows_of state)
+sound-rows_of state is = record { rise = rising-rows_of state; nibbles = small-rows_of state is; paths = short_paths state is; values = short-rows_of state is }
 
 -- ---- the top of their trie
 
@@ -94,7 +94,7 @@ sound_top (leaf path value) fits short = (fits.1.0, short, fits.0)
 sound_top (branch value kids) fits short = tt
 sound_top (extension path child) fits short = (fits.1.0, short, fits.0)
 
-pub sound-tree_of : (rows : List Row) → AreKept rows → IsSound (tree_of rows)
+pub sound-tree_of : (rows : List Row) → AreSound rows → IsSound (tree_of rows)
 sound-tree_of rows h = sound_top (tree_of rows) (sound_nodes rows h.rise h.nibbles h.values) (short_top rows h.paths)
 
 -- ---- the branch of rows that fork
@@ -109,10 +109,10 @@ shaped-agree : (value : Option ValueOfRecord) (kids others : ℕ → Option (Lis
 shaped-agree None kids others same h = omega arith
 shaped-agree (Some value) kids others same h = (h.0, let one = h.1 in omega arith)
 
-pub shaped-forks : (rows : List Row) → AreKept rows → (value : Option ValueOfRecord) (kids : ℕ → Option (List ℕ)) (used : ℕ) → IsBranchOf rows value kids used → IsShaped (node.branch value kids)
+pub shaped-forks : (rows : List Row) → AreSound rows → (value : Option ValueOfRecord) (kids : ℕ → Option (List ℕ)) (used : ℕ) → IsBranchOf rows value kids used → IsShaped (node.branch value kids)
 unfolding node_of
-shaped-forks rows kept value kids used is =
+shaped-forks rows sound value kids used is =
     let others = λ (x : ℕ). name_of (child_of rows x) (text (child_of rows x)) in
-    let fits = subst HasNode (tree-forks rows is.fork) (sound_nodes rows kept.rise kept.nibbles kept.values) in
+    let fits = subst HasNode (tree-forks rows is.fork) (sound_nodes rows sound.rise sound.nibbles sound.values) in
     let count = sum_below-agree (λ x. if is_some (kids x) then 1 else 0) (λ x. if is_some (others x) then 1 else 0) 16 (λ x h. ap (λ (child : Option (List ℕ)). if is_some child then 1 else 0) (is.children.named x h)) in
     subst (λ (v : Option ValueOfRecord). IsShaped (node.branch v kids)) (sym is.ends) (shaped-agree (option_map value_ref (ends_here rows)) kids others count fits.0)
