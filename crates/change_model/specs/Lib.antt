@@ -9,5 +9,7 @@ pub mod Exchange
 -- what a batch visits over any set of texts, and the first test that fails
 pub mod Visits
 -- a table that has the texts which a batch touches
+-- what a batch can tell of what is seen
+pub mod Along
 pub mod Tables
 pub mod Examples
