@@ -1,3 +1,4 @@
 pub mod Laying
 pub mod Along
 pub mod Seeing
+pub mod Laid

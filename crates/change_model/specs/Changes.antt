@@ -1,8 +1,8 @@
 -- Batches of changes (this project): what each changed key becomes, and the state after them.
-use Rattle.std.specs.Prelude.{ℕ, ◌≤◌, List, [], ◌∷◌, length, map, Option, None, Some, IfSome}
+use Rattle.std.specs.Prelude.{ℕ, ◌≤◌, nat_eq, List, [], ◌∷◌, length, map, Option, None, Some, IfSome, if◌then◌else◌}
 use Rattle.std.specs.List.{AllByRecursion}
 use Rattle.std.specs.Ordering.{nat_cmp}
-use Rattle.std.specs.Cmp.Lexicographic.{slice_cmp}
+use Rattle.std.specs.Cmp.Lexicographic.{slice_cmp, pointwise}
 use Rattle.std.specs.FinMap.{FinMap, entries, insert, remove}
 use Rattle.byte_model.specs.Nibbles.{AreBytes, nibbles}
 use Rattle.byte_model.specs.Node.{longest_value}
@@ -57,6 +57,11 @@ decided (Some value) former = value
 -- The changes as the trie sees them: the nibbles of each key, and what it becomes.
 abbrev pub change_rows : Changes → List Change
 change_rows changes = map (λ change. (nibbles change.0, change.1)) (entries changes)
+
+-- what a list has at a path: of the first entry with that path
+unfoldable pub found_at : {X : Type 0} → List ℕ → List (List ℕ × X) → Option X
+found_at path [] = None
+found_at path (entry ∷ rest) = if pointwise nat_eq entry.0 path then Some entry.1 else found_at path rest
 
 -- the nibbles of the changed keys
 abbrev pub changed_paths : Changes → List (List ℕ)

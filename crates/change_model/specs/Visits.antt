@@ -9,7 +9,7 @@ use Rattle.byte_model.specs.Node.{ValueRef, cost_of}
 use Rattle.trie_model.specs.Tree.{rest_behind}
 use Rattle.trie_model.specs.Root.{Table}
 use Rattle.visit_model.specs.Seen.{Seen, nothing, missing, bad, leaf, branch, extension, seen, stated_usage}
-use Rattle.change_model.specs.Changes.{Changes, Change, change_rows}
+use Rattle.change_model.specs.Changes.{Changes, Change, change_rows, found_at}
 
 -- ---- how a batch ends
 
@@ -83,9 +83,8 @@ abbrev pub sets_some : List Change → Bool
 sets_some changes = list_any (λ change. is_some change.1) changes
 
 -- what the change of a path makes of it, if there is one
-unfoldable pub change_at : List ℕ → List Change → Option (Option (List ℕ))
-change_at path [] = None
-change_at path (change ∷ changes) = if pointwise nat_eq change.0 path then Some change.1 else change_at path changes
+abbrev pub change_at : List ℕ → List Change → Option (Option (List ℕ))
+change_at path changes = found_at path changes
 
 -- whether the key of a path is deleted
 abbrev pub is_deletion : Option (Option (List ℕ)) → Bool
