@@ -1,4 +1,7 @@
 pub mod Laying
+pub mod Forks
+pub mod Touched
+pub mod Cuts
 pub mod Along
 pub mod Seeing
 pub mod Laid

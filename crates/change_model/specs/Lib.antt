@@ -12,4 +12,6 @@ pub mod Visits
 -- what a batch can tell of what is seen
 pub mod Along
 pub mod Tables
+-- what the laws speak of
+pub mod Laws
 pub mod Examples

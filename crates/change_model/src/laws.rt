@@ -8,9 +8,10 @@ ghost use Rattle.sha2.specs.Sha256.{sha256};
 ghost use Rattle.trie_model.specs.State.{State, IsState, IsPair};
 ghost use Rattle.trie_model.specs.Root.{Table, root, text_at, texts_of, places_of, subtree_at, digest_occurrences};
 ghost use Rattle.change_model.specs.Changes.{Changes, AreChanges, after, decided, changed_paths};
-ghost use Rattle.change_model.specs.Places.{above, is_branch, is_touched, is_written, leads_to, remains_alone, touched_places};
+ghost use Rattle.change_model.specs.Places.{above, is_branch, is_place_of, is_touched, is_written, leads_to, remains_alone, touched_places};
 ghost use Rattle.change_model.specs.Ledger.{gain, loss, made_texts};
 ghost use Rattle.change_model.specs.Exchange.{count_of_digest, is_given_up, taken_texts};
+ghost use Rattle.change_model.specs.Laws.{IsCut};
 ghost use Rattle.change_model.specs.Tables.{HoldsPlaces};
 ghost use Rattle.change_model.specs.Visits.{batch_visits};
 
@@ -29,6 +30,11 @@ pub fn untouched_places_stay()
 /// A place of the new state that is not written is one of the old state, with the same text.
 pub fn unwritten_places_stay()
     ensures { (state : State) (changes : Changes) (place : List ℕ) → IsState state → AreChanges changes → Contains (places_of (after state changes)) place → is_written state changes place ≡ false → Contains (places_of state) place × (text_at (after state changes) place ≡ text_at state place) }
+{}
+
+/// A place of the new state that is no place of the old one stands on the path of a changed key, or is cut out of a place that is touched.
+pub fn new_places_are_cut_from_touched_ones()
+    ensures { (state : State) (changes : Changes) (place : List ℕ) → IsState state → AreChanges changes → Contains (places_of (after state changes)) place → leads_to (changed_paths changes) place ≡ false → is_place_of state place ≡ false → IsCut state changes place }
 {}
 
 /// What a batch gives up of the old state it has touched.

@@ -1,0 +1,15 @@
+-- What the laws over the definitions speak of.
+use Rattle.std.specs.Prelude.{◌≡◌, ◌≢◌, ℕ, List, [], ◌++◌, map, Contains}
+use Rattle.trie_model.specs.State.{State, Row, rows_of}
+use Rattle.trie_model.specs.Tree.{below}
+use Rattle.change_model.specs.Changes.{Changes, after}
+use Rattle.change_model.specs.Places.{touched_places}
+
+-- A place of the new state is cut out of a touched place of the old one, in the middle of the path of its leaf or extension: the rows below the old place are those below the new one, with the nibbles in between put before them.
+pub record IsCut (state : State) (changes : Changes) (place : List ℕ) : Type 0 where
+  pub from : List ℕ
+  pub between : List ℕ
+  pub path : place ≡ from ++ between
+  pub further : between ≢ []
+  pub touched : Contains (touched_places state [] changes) from
+  pub rows : below from (rows_of state) ≡ map (λ row. (between ++ row.0, row.1)) (below place (rows_of (after state changes)))
