@@ -90,7 +90,7 @@ laid-below p rows changes later laid = record {
 
 -- ---- of a state
 
-key_of-nibbles : (key : List ℕ) → key_of (nibbles key) ≡ key
+pub key_of-nibbles : (key : List ℕ) → key_of (nibbles key) ≡ key
 unfolding key_of nibbles
 key_of-nibbles [] = refl
 key_of-nibbles (byte ∷ key) =
@@ -119,10 +119,10 @@ no_key_test path key none =
     no_both b e f = cc
 
 module _ {X : Type 0} where
-  abbrev by_nibbles : List (List ℕ × X) → List (List ℕ × X)
+  abbrev pub by_nibbles : List (List ℕ × X) → List (List ℕ × X)
   by_nibbles es = map (λ e. (nibbles e.0, e.1)) es
 
-  found_at-nibbles : (path : List ℕ) (es : List (List ℕ × X)) → found_at path (by_nibbles es) ≡ (if same_path (nibbles (key_of path)) path then find (slice_cmp nat_cmp) (key_of path) es else None)
+  pub found_at-nibbles : (path : List ℕ) (es : List (List ℕ × X)) → found_at path (by_nibbles es) ≡ (if same_path (nibbles (key_of path)) path then find (slice_cmp nat_cmp) (key_of path) es else None)
   unfolding found_at
   found_at-nibbles path es =
       elim (same_path (nibbles (key_of path)) path) as (λ b. same_path (nibbles (key_of path)) path ≡ b → found_at path (by_nibbles es) ≡ (if b then find (slice_cmp nat_cmp) (key_of path) es else None)) [

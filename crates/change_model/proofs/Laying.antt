@@ -43,7 +43,7 @@ tied_not_less Greater e h = h
 
 -- a key that stands before all keys of a list is not among them
 module _ {X : Type 0} where
-  find_before : (q : List ℕ) (es : List (List ℕ × X)) → T (below_all (slice_cmp nat_cmp) q es) → find (slice_cmp nat_cmp) q es ≡ None
+  pub find_before : (q : List ℕ) (es : List (List ℕ × X)) → T (below_all (slice_cmp nat_cmp) q es) → find (slice_cmp nat_cmp) q es ≡ None
   find_before q [] h = refl
   find_before q (e ∷ es) h =
       elim (ties q e.0) as (λ b. ties q e.0 ≡ b → cond b (Some e.1) (find (slice_cmp nat_cmp) q es) ≡ None) [

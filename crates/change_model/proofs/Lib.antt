@@ -5,3 +5,4 @@ pub mod Cuts
 pub mod Along
 pub mod Seeing
 pub mod Laid
+pub mod Left
