@@ -17,6 +17,7 @@ use Rattle.change_model.specs.Changes.{Changes, after, changed_paths, AreChanges
 use Rattle.change_model.specs.Places.{above, is_touched, is_written, leads_to, is_place_of, remains_alone}
 use Rattle.change_model.specs.Laws.{IsCut}
 use Rattle.change_model.proofs.Laying.{below-after}
+use Rattle.change_model.proofs.Filtered.{in_filter}
 use Rattle.change_model.proofs.Forks.{Fork, Stands, at_root, at_fork, behind_fork, fork-nil, below-under_cons, small_nibble}
 use Rattle.change_model.proofs.Touched.{stands_of_place, place_of_in, place_of_stands, is_place, above-behind, split_last}
 
@@ -125,17 +126,6 @@ inside = by_cases AllInside (record {
     filled row rows e = cc
 
 -- ---- of a batch
-
-in_filter : {X : Type 0} (p : X → Bool) (xs : List X) (x : X) → IsIn xs x → p x ≡ true → IsIn (filter p xs) x
-in_filter p [] x h t = absurd h
-in_filter p (y ∷ ys) x (inl e) t =
-    let test : p y ≡ true = ap p e ∙ t in
-    subst (λ b. IsIn (cond b (y ∷ filter p ys) (filter p ys)) x) (sym test) (inl e)
-in_filter p (y ∷ ys) x (inr h) t =
-    elim (p y) as (λ b. IsIn (cond b (y ∷ filter p ys) (filter p ys)) x) [
-      | true ↦ inr (in_filter p ys x h t)
-      | false ↦ in_filter p ys x h t
-    ]
 
 some_below : (rows : List Row) (place : List ℕ) → Stands rows place → below place rows ≢ []
 some_below rows place (at_root top some) = subst (λ (p : List ℕ). below p rows ≢ []) (sym top) (subst (λ (rs : List Row). rs ≢ []) (sym (below-nil rows)) some)

@@ -28,13 +28,17 @@ same_key = slice_cmp-IsAntisymmetric nat_cmp-IsAntisymmetric
 pub same_of_ties : (q key : List ℕ) → ties q key ≡ true → q ≡ key
 same_of_ties q key e = same_key q key ((Equal-is (slice_cmp nat_cmp q key)).0 e)
 
-first_test : (a b : Bool) → T (a && b) → T a
+pub first_test : (a b : Bool) → T (a && b) → T a
 first_test true b h = tt
 first_test false b h = h
 
-second_test : (a b : Bool) → T (a && b) → T b
+pub second_test : (a b : Bool) → T (a && b) → T b
 second_test true b h = h
 second_test false b h = absurd h
+
+pub both_tests : (a b : Bool) → T a → T b → T (a && b)
+both_tests true b h k = k
+both_tests false b h k = h
 
 tied_not_less : (o : Ordering) → is_eq o ≡ true → T (is_lt o) → ⊥
 tied_not_less Less e h = false≢true e

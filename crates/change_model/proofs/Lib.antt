@@ -1,7 +1,10 @@
+pub mod Filtered
 pub mod Laying
 pub mod Forks
 pub mod Touched
 pub mod Cuts
+pub mod Balance
+pub mod Unchanged
 pub mod Along
 pub mod Seeing
 pub mod Laid
