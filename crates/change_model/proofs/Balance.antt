@@ -1,5 +1,5 @@
 -- What a batch takes out of the texts of a state and what it puts in: both states have the rest, text by text.
-use Rattle.std.proofs.Common.{◌≡◌, ℕ, ◌+◌, ◌||◌, Bool, true, false, cond, not, T, List, [], ◌∷◌, ◌++◌, map, Option, None, Some, is_some, Contains, Ordering, Less, Equal, nat_cmp, refl, sym, ◌∙◌, ap, ap₂, subst, ◌⊎◌, inl, inr, arith}
+use Rattle.std.proofs.Common.{◌≡◌, ℕ, ◌+◌, ◌-◌, ◌&&◌, ◌||◌, Bool, true, false, cond, not, T, length, List, [], ◌∷◌, ◌++◌, map, Option, None, Some, is_some, is_none, Contains, Ordering, Less, Equal, nat_cmp, refl, sym, ◌∙◌, ap, ap₂, subst, ◌⊎◌, inl, inr, arith}
 use Rattle.std.specs.List.{AllByRecursion, filter, filter_map, cons_option, sum_by, count_by}
 use Rattle.std.specs.List.Sorted.{IsStrictlySortedBy}
 use Rattle.std.specs.Option.{option_map}
@@ -21,7 +21,7 @@ use Rattle.trie_model.proofs.Worked.{Pair, rows_of_pairs}
 use Rattle.trie_model.proofs.Order.{Before, Rising, rising-places_of}
 use Rattle.change_model.specs.Changes.{Changes, Change, after, decided, changed_paths, AreChanges}
 use Rattle.change_model.specs.Places.{leads_to, is_place_of, is_written, written_places}
-use Rattle.change_model.specs.Ledger.{set_values, made_texts}
+use Rattle.change_model.specs.Ledger.{set_values, made_texts, fresh, gone}
 use Rattle.change_model.specs.Exchange.{is_given_up, former_values, taken_texts}
 use Rattle.change_model.proofs.Laying.{ties, same_key, same_of_ties, first_test, second_test, both_tests, all_of_get, where_key-agree, get-after, below-after}
 use Rattle.trie_model.proofs.Costs.{text_at-same}
@@ -107,11 +107,15 @@ changed_entries state changes =
       ∙ ap₂ (λ (b : Bool) (o : Option (List ℕ)). cond b o None) (ap is_some (get-entries changes q)) (sym (get-entries state q))
       ∙ sym (find-picked (get state) q (entries changes)))
 
-values_by_keys : (f : List ℕ → ℕ) (state : State) (changes : Changes) → sum_by f (map (λ row. row.1) (rows_of state)) ≡ sum_by f (filter_map (λ change. get state change.0) (entries changes)) + sum_by (λ e. f e.1) (other_values state changes)
+values_weigh : (f : List ℕ → ℕ) (state : State) → sum_by f (map (λ row. row.1) (rows_of state)) ≡ sum_by (λ e. f e.1) (entries state)
 unfolding rows_of
-values_by_keys f state changes =
+values_weigh f state =
     sum_by-map f (λ (row : Row). row.1) (rows_of_pairs (entries state))
     ∙ sum_by-map (λ (row : Row). f row.1) (λ (pair : Pair). (nibbles pair.0, pair.1)) (entries state)
+
+values_by_keys : (f : List ℕ → ℕ) (state : State) (changes : Changes) → sum_by f (map (λ row. row.1) (rows_of state)) ≡ sum_by f (filter_map (λ change. get state change.0) (entries changes)) + sum_by (λ e. f e.1) (other_values state changes)
+values_by_keys f state changes =
+    values_weigh f state
     ∙ sym (sum_by-filter_both (λ (e : Pair). is_changed changes e.0) (λ (e : Pair). not (is_changed changes e.0)) (λ e. refl) (λ (e : Pair). f e.1) (entries state))
     ∙ ap (λ (n : ℕ). n + sum_by (λ (e : Pair). f e.1) (other_values state changes)) (ap (sum_by (λ (e : Pair). f e.1)) (changed_entries state changes) ∙ sum_by-picked (get state) f (entries changes))
 
@@ -249,3 +253,54 @@ weighed f state changes =
 
 pub exchange : (test : List ℕ → Bool) (state : State) (changes : Changes) → count_by test (texts_of (after state changes)) + count_by test (taken_texts state changes) ≡ count_by test (texts_of state) + count_by test (made_texts state changes)
 exchange test state changes = weighed (λ t. cond (test t) 1 0) state changes
+
+pub more_made : (new taken old made : ℕ) → new + taken ≡ old + made → new - old ≡ made - taken
+more_made new taken old made e = omega arith
+
+pub more_taken : (new taken old made : ℕ) → new + taken ≡ old + made → old - new ≡ taken - made
+more_taken new taken old made e = omega arith
+
+-- ---- how many pairs
+
+length-ones : {X : Type 0} (xs : List X) → length xs ≡ sum_by (λ x. 1) xs
+length-ones [] = refl
+length-ones (x ∷ xs) = let rest = length-ones xs in let step = sum_by-cons (λ x. 1) x xs in omega arith
+
+-- a key is fresh or was there, and is set or gone
+each_counted : (state : State) (changes : List Change) → sum_by (λ v. 1) (filter_map (λ change. get state change.0) changes) + count_by (λ change. is_some change.1 && not (is_some (get state change.0))) changes ≡ sum_by (λ v. 1) (filter_map (λ change. change.1) changes) + count_by (λ change. is_none change.1 && is_some (get state change.0)) changes
+each_counted state [] = refl
+each_counted state (change ∷ changes) =
+    rw (sum_by-cons (λ (change : Change). cond (is_some change.1 && not (is_some (get state change.0))) 1 0) change changes, sum_by-cons (λ (change : Change). cond (is_none change.1 && is_some (get state change.0)) 1 0) change changes)
+    (go change.1 (get state change.0) (each_counted state changes))
+  where
+    formers : List (List ℕ)
+    formers = filter_map (λ change. get state change.0) changes
+
+    sets : List (List ℕ)
+    sets = filter_map (λ change. change.1) changes
+
+    appear : ℕ
+    appear = count_by (λ change. is_some change.1 && not (is_some (get state change.0))) changes
+
+    disappear : ℕ
+    disappear = count_by (λ change. is_none change.1 && is_some (get state change.0)) changes
+
+    go : (o p : Option (List ℕ)) → sum_by (λ v. 1) formers + appear ≡ sum_by (λ v. 1) sets + disappear → sum_by (λ v. 1) (cons_option p formers) + (cond (is_some o && not (is_some p)) 1 0 + appear) ≡ sum_by (λ v. 1) (cons_option o sets) + (cond (is_none o && is_some p) 1 0 + disappear)
+    go None None h = omega arith
+    go None (Some w) h = let a = sum_by-cons (λ v. 1) w formers in omega arith
+    go (Some v) None h = let b = sum_by-cons (λ v. 1) v sets in omega arith
+    go (Some v) (Some w) h =
+        let a = sum_by-cons (λ v. 1) w formers in
+        let b = sum_by-cons (λ v. 1) v sets in
+        omega arith
+
+pub pairs_counted : (state : State) (changes : Changes) → length (entries (after state changes)) + gone state changes ≡ length (entries state) + fresh state changes
+pairs_counted state changes =
+    let new = values_by_keys (λ v. 1) (after state changes) changes in
+    let old = values_by_keys (λ v. 1) state changes in
+    let new_length : length (entries (after state changes)) ≡ sum_by (λ v. 1) (map (λ row. row.1) (rows_of (after state changes))) = length-ones (entries (after state changes)) ∙ sym (values_weigh (λ v. 1) (after state changes)) in
+    let old_length : length (entries state) ≡ sum_by (λ v. 1) (map (λ row. row.1) (rows_of state)) = length-ones (entries state) ∙ sym (values_weigh (λ v. 1) state) in
+    let sets = ap (sum_by (λ v. 1)) (set_values-after state changes) in
+    let others = ap (sum_by (λ (e : Pair). 1)) (others_stay state changes) in
+    let each = each_counted state (entries changes) in
+    omega arith

@@ -2,4 +2,4 @@ use Rattle.change_model.proofs.Unchanged.{made_before}
 use Rattle.change_model.proofs.laws.nothing_new_without_change.Goals as goal
 
 pub returns : goal.returns
-returns c = λ state changes t is are. made_before state changes t
+returns c = made_before

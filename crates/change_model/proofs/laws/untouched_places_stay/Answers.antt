@@ -8,4 +8,4 @@ pub returns-clause-places : goal.returns-clause-places
 returns-clause-places c = untouched_stays
 
 pub returns-clause-texts : goal.returns-clause-texts
-returns-clause-texts c = λ state changes place is are none. text_at-same (after state changes) state place place (below-after state changes place none)
+returns-clause-texts c = λ state changes place none. text_at-same (after state changes) state place place (below-after state changes place none)

@@ -2,4 +2,4 @@ use Rattle.change_model.proofs.Touched.{unwritten_stays}
 use Rattle.change_model.proofs.laws.unwritten_places_stay.Goals as goal
 
 pub returns : goal.returns
-returns c = λ state changes place is are there kept. unwritten_stays state changes place kept
+returns c = unwritten_stays
