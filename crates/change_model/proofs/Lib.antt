@@ -9,3 +9,4 @@ pub mod Along
 pub mod Seeing
 pub mod Laid
 pub mod Left
+pub mod Worked
