@@ -2,11 +2,11 @@
 use Rattle.std.proofs.Common.{◌≡◌, ◌≢◌, ℕ, ◌<◌, Bool, true, false, cond, List, [], ◌∷◌, ◌++◌, Option, None, Some, Contains, refl, sym, ◌∙◌, ap, ap₂, subst, ◌⊎◌, inl, inr, append_assoc, append-nil}
 use Rattle.std.specs.List.{AllByRecursion, cons_option, filter}
 use Rattle.std.specs.Option.{option_map}
-use Rattle.std.proofs.lemmas.Bool.{false≢true, cases_eq, or_left, true_from_ne_false}
+use Rattle.std.proofs.lemmas.Bool.{false≢true, cases_eq, or_left, true_from_ne_false, false_from_ne_true}
 use Rattle.trie_model.specs.State.{State, Row, rows_of, IsState}
 use Rattle.trie_model.specs.Tree.{Tree, branch, extension, rest_behind, below, ends_here, common_prefix, tree_of}
 use Rattle.trie_model.specs.Texts.{places}
-use Rattle.trie_model.specs.Root.{places_of}
+use Rattle.trie_model.specs.Root.{places_of, subtree_at}
 use Rattle.trie_model.proofs.Members.{IsIn, contains_of_in, in_of_contains, all_at, all_of}
 use Rattle.trie_model.proofs.Rests.{HasPrefix, HasPrefix-HasPrefix, AllHavePrefix, common_prefix-all, under, under-below, below-under, below-nil, below-none, below-append, prefix_and_rest}
 use Rattle.trie_model.proofs.Trees.{tree_of-nil, tree_of-one, tree_of-forks, tree_of-shares, by_cases}
@@ -14,7 +14,7 @@ use Rattle.trie_model.proofs.Children.{root_is_place, in_branch, in_extension}
 use Rattle.trie_model.proofs.Growth.{below-under_other}
 use Rattle.trie_model.proofs.Pairs.{Small, small-below, small-rows_of}
 use Rattle.change_model.specs.Changes.{Changes, after, changed_paths, AreChanges}
-use Rattle.change_model.specs.Places.{above, is_touched, is_written, leads_to, is_place_of, remains_alone}
+use Rattle.change_model.specs.Places.{above, is_branch, is_touched, is_written, leads_to, is_place_of, remains_alone}
 use Rattle.change_model.specs.Laws.{IsCut}
 use Rattle.change_model.proofs.Laying.{below-after}
 use Rattle.change_model.proofs.Filtered.{in_filter}
@@ -150,7 +150,7 @@ stands_before old new place from between path further same here (behind_fork q x
         behind_fork q x end (subst Fork rows f) (subst (λ (rs : List Row). rs ≢ []) here some)
 
 pub cut_from_touched : (state : State) (changes : Changes) (place : List ℕ) → IsState state → AreChanges changes → Contains (places_of (after state changes)) place → leads_to (changed_paths changes) place ≡ false → is_place_of state place ≡ false → IsCut state changes place
-unfolding is_touched
+unfolding is_touched subtree_at
 cut_from_touched state changes place is are h none new =
     let old : List Row = rows_of state in
     let same : below place (rows_of (after state changes)) ≡ below place old = below-after state changes place none in
@@ -164,5 +164,6 @@ cut_from_touched state changes place is are h none new =
       path = there.path;
       further = there.further;
       touched = contains_of_in _ there.from (in_filter (is_touched state [] changes) (places_of state) there.from (in_of_contains _ there.from (place_of_in state there.from there.place_there)) (or_left _ _ led));
+      no_branch = false_from_ne_true (is_branch (tree_of (below place (rows_of (after state changes))))) (λ f. no_place_before (place_of_stands state place (small-rows_of state is) (at_fork (subst Fork same f))));
       rows = sym (under-below there.between (below there.from old) there.all) ∙ ap (under there.between) (sym (below-append there.from there.between old) ∙ ap (λ (p : List ℕ). below p old) (sym there.path) ∙ sym same);
     }

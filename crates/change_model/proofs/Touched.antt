@@ -167,22 +167,57 @@ given_up_is_touched state changes place is are h given_up =
     let kept : (leads_to (changed_paths changes) place || not (is_place_of (after state changes) place)) ≡ false = or_from _ _ parts.0 (ap not there) in
     false≢true (sym kept ∙ given_up))
 
--- ---- above what remains alone
+-- ---- what remains alone
 
-pub no_branch_above : (state : State) (changes : Changes) (place : List ℕ) → remains_alone state changes place ≡ true → is_branch (subtree_at (after state changes) (above place)) ≡ false
-unfolding remains_alone subtree_at
-no_branch_above state changes place alone = go (split_last place)
+-- it stands one nibble behind the place above it, and all rows below that begin with the nibble
+record Alone (rows : List Row) (place : List ℕ) : Type 0 where
+  up : List ℕ
+  nibble : ℕ
+  path : place ≡ up ++ nibble ∷ []
+  all : AllHavePrefix (nibble ∷ []) (below up rows)
+
+alone_rows : (state : State) (changes : Changes) (place : List ℕ) → remains_alone state changes place ≡ true → Alone (rows_of (after state changes)) place
+unfolding remains_alone
+alone_rows state changes place alone = go (split_last place)
   where
-    go : (place ≡ []) ⊎ ((q : List ℕ) × (x : ℕ) × (place ≡ q ++ x ∷ [])) → is_branch (subtree_at (after state changes) (above place)) ≡ false
+    go : (place ≡ []) ⊎ ((q : List ℕ) × (x : ℕ) × (place ≡ q ++ x ∷ [])) → Alone (rows_of (after state changes)) place
     go (inl none) =
         let short : remains_alone state changes [] ≡ true = subst (λ (p : List ℕ). remains_alone state changes p ≡ true) none alone in
         absurd (false≢true short)
     go (inr r) =
-        let q : List ℕ = r.0 in
-        let x : ℕ = r.1 in
-        let up : above place ≡ q = ap above r.2 ∙ above-behind q x in
         let all : all_stand_below (rows_of (after state changes)) (above place) place ≡ true = (and_parts _ _ alone).1 in
-        let all_there : all_stand_below (rows_of (after state changes)) q (q ++ x ∷ []) ≡ true = subst (λ (p : List ℕ). all_stand_below (rows_of (after state changes)) q p ≡ true) r.2 (subst (λ (p : List ℕ). all_stand_below (rows_of (after state changes)) p place ≡ true) up all) in
-        let rows : AllHavePrefix (x ∷ []) (below q (rows_of (after state changes))) = all_below-prefix (rows_of (after state changes)) q (x ∷ []) all_there in
-        ap (λ (p : List ℕ). is_branch (subtree_at (after state changes) p)) up
-        ∙ false_from_ne_true (is_branch (subtree_at (after state changes) q)) (λ f. fork-prefix x [] (below q (rows_of (after state changes))) rows f)
+        let whole : all_stand_below (rows_of (after state changes)) r.0 (r.0 ++ r.1 ∷ []) ≡ true = subst (λ (p : List ℕ). all_stand_below (rows_of (after state changes)) r.0 p ≡ true) r.2 (subst (λ (p : List ℕ). all_stand_below (rows_of (after state changes)) p place ≡ true) (ap above r.2 ∙ above-behind r.0 r.1) all) in
+        record {
+          up = r.0;
+          nibble = r.1;
+          path = r.2;
+          all = all_below-prefix (rows_of (after state changes)) r.0 (r.1 ∷ []) whole;
+        }
+
+pub no_branch_above : (state : State) (changes : Changes) (place : List ℕ) → remains_alone state changes place ≡ true → is_branch (subtree_at (after state changes) (above place)) ≡ false
+unfolding subtree_at
+no_branch_above state changes place alone =
+    let there = alone_rows state changes place alone in
+    ap (λ (p : List ℕ). is_branch (subtree_at (after state changes) p)) (ap above there.path ∙ above-behind there.up there.nibble)
+    ∙ false_from_ne_true (is_branch (subtree_at (after state changes) there.up)) (λ f. fork-prefix there.nibble [] (below there.up (rows_of (after state changes))) there.all f)
+
+-- a place behind which no row forks above it is a place by its own fork
+alone_forks : (rows : List Row) (place : List ℕ) → Alone rows place → Stands rows place → Fork (below place rows)
+alone_forks rows place there (at_root top some) = absurd (no_end there.up there.nibble (sym top ∙ there.path))
+  where
+    no_end : (q : List ℕ) (x : ℕ) → [] ≡ q ++ x ∷ [] → ⊥
+    no_end [] x e = cc
+    no_end (y ∷ q) x e = cc
+alone_forks rows place there (at_fork f) = f
+alone_forks rows place there (behind_fork q x path f some) =
+    let same : q ≡ there.up = sym (above-behind q x) ∙ ap above (sym path ∙ there.path) ∙ above-behind there.up there.nibble in
+    absurd (fork-prefix there.nibble [] (below there.up rows) there.all (subst (λ (p : List ℕ). Fork (below p rows)) same f))
+
+pub touched_stays : (state : State) (changes : Changes) (place : List ℕ) → is_touched state [] changes place ≡ true → is_given_up state changes place ≡ false → (remains_alone state changes place ≡ true) × (is_branch (subtree_at state place) ≡ true)
+unfolding is_touched is_given_up subtree_at
+touched_stays state changes place touched kept =
+    let parts = or_parts (leads_to (changed_paths changes) place) (not (is_place_of (after state changes) place)) kept in
+    let alone : remains_alone state changes place ≡ true = subst (λ b. (b || remains_alone state changes place) ≡ true) parts.0 touched in
+    let there : is_place_of (after state changes) place ≡ true = true_from_ne_false (is_place_of (after state changes) place) (λ e. false≢true (sym parts.1 ∙ ap not e)) in
+    let fork = alone_forks (rows_of (after state changes)) place (alone_rows state changes place alone) (stands_of_place (after state changes) place (place_from_test (after state changes) place there)) in
+    (alone, subst Fork (below-after state changes place parts.0) fork)

@@ -5,7 +5,8 @@ ghost use Rattle.std.specs.List.{AllByRecursion};
 ghost use Rattle.std.specs.List.Sorted.{IsPermutation};
 ghost use Rattle.std.specs.FinMap.{get, entries};
 ghost use Rattle.sha2.specs.Sha256.{sha256};
-ghost use Rattle.trie_model.specs.State.{State, IsState, IsPair};
+ghost use Rattle.trie_model.specs.State.{State, IsState, IsPair, rows_of};
+ghost use Rattle.trie_model.specs.Tree.{below};
 ghost use Rattle.trie_model.specs.Root.{Table, root, text_at, texts_of, places_of, subtree_at, digest_occurrences};
 ghost use Rattle.change_model.specs.Changes.{Changes, AreChanges, after, decided, changed_paths};
 ghost use Rattle.change_model.specs.Places.{above, is_branch, is_place_of, is_touched, is_written, leads_to, remains_alone, touched_places};
@@ -21,9 +22,10 @@ pub fn last_change_decides()
     ensures pairs { (state : State) (changes : Changes) → IsState state → AreChanges changes → AllByRecursion IsPair (entries (after state changes)) }
 {}
 
-/// What is not touched keeps its text: it is a place of the new state, with the same pairs below it.
+/// What is not touched stays a place. And below any path on which no change stands, the rows stay, and so do the texts.
 pub fn untouched_places_stay()
     ensures places { (state : State) (changes : Changes) (place : List ℕ) → IsState state → AreChanges changes → Contains (places_of state) place → is_touched state [] changes place ≡ false → Contains (places_of (after state changes)) place }
+    ensures rows { (state : State) (changes : Changes) (place : List ℕ) → leads_to (changed_paths changes) place ≡ false → below place (rows_of (after state changes)) ≡ below place (rows_of state) }
     ensures texts { (state : State) (changes : Changes) (place : List ℕ) → leads_to (changed_paths changes) place ≡ false → text_at (after state changes) place ≡ text_at state place }
 {}
 
@@ -40,6 +42,11 @@ pub fn new_places_are_cut_from_touched_ones()
 /// What a batch gives up of the old state it has touched.
 pub fn given_up_places_are_touched()
     ensures { (state : State) (changes : Changes) (place : List ℕ) → IsState state → AreChanges changes → Contains (places_of state) place → is_given_up state changes place ≡ true → is_touched state [] changes place ≡ true }
+{}
+
+/// And what it has touched and doesn't give up is a branch that remains alone: it becomes the child of an extension, as it is.
+pub fn touched_places_that_stay_are_branches()
+    ensures { (state : State) (changes : Changes) (place : List ℕ) → is_touched state [] changes place ≡ true → is_given_up state changes place ≡ false → remains_alone state changes place ≡ true × (is_branch (subtree_at state place) ≡ true) }
 {}
 
 /// Above a place that remains alone there is no branch in the new state.
