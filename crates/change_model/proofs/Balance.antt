@@ -103,9 +103,9 @@ changed_entries state changes =
     (is_sorted-where_key (slice_cmp nat_cmp) (is_changed changes) (entries state) (entries_sorted state))
     (sorted-picked (get state) (entries changes) (entries_sorted changes))
     (λ q.
-      find-where_key (slice_cmp nat_cmp) (is_changed changes) q (λ x e. ap (is_changed changes) (sym (same_key q x e))) (entries state)
-      ∙ ap₂ (λ (b : Bool) (o : Option (List ℕ)). cond b o None) (ap is_some (get-entries changes q)) (sym (get-entries state q))
-      ∙ sym (find-picked (get state) q (entries changes)))
+    find-where_key (slice_cmp nat_cmp) (is_changed changes) q (λ x e. ap (is_changed changes) (sym (same_key q x e))) (entries state)
+    ∙ ap₂ (λ (b : Bool) (o : Option (List ℕ)). cond b o None) (ap is_some (get-entries changes q)) (sym (get-entries state q))
+    ∙ sym (find-picked (get state) q (entries changes)))
 
 values_weigh : (f : List ℕ → ℕ) (state : State) → sum_by f (map (λ row. row.1) (rows_of state)) ≡ sum_by (λ e. f e.1) (entries state)
 unfolding rows_of
@@ -198,17 +198,17 @@ kept_alike state changes =
     (IsStrictlySortedBy-filter (slice_cmp nat_cmp) (λ place. not (is_written state changes place)) (places_of (after state changes)) (rising-places_of (after state changes)))
     (IsStrictlySortedBy-filter (slice_cmp nat_cmp) (λ place. not (is_given_up state changes place)) (places_of state) (rising-places_of state))
     (λ place i.
-      let r = in_filter_from (λ p. not (is_written state changes p)) (places_of (after state changes)) place i in
-      let parts = or_parts (leads_to (changed_paths changes) place) (not (is_place_of state place)) (is_false _ r.1) in
-      in_filter (λ p. not (is_given_up state changes p)) (places_of state) place
-      (in_of_contains (places_of state) place (place_from_test state place (is_true _ parts.1)))
-      (ap not (or_from _ _ parts.0 (ap not (is_place (after state changes) place (contains_of_in (places_of (after state changes)) place r.0))))))
+    let r = in_filter_from (λ p. not (is_written state changes p)) (places_of (after state changes)) place i in
+    let parts = or_parts (leads_to (changed_paths changes) place) (not (is_place_of state place)) (is_false _ r.1) in
+    in_filter (λ p. not (is_given_up state changes p)) (places_of state) place
+    (in_of_contains (places_of state) place (place_from_test state place (is_true _ parts.1)))
+    (ap not (or_from _ _ parts.0 (ap not (is_place (after state changes) place (contains_of_in (places_of (after state changes)) place r.0))))))
     (λ place i.
-      let r = in_filter_from (λ p. not (is_given_up state changes p)) (places_of state) place i in
-      let parts = or_parts (leads_to (changed_paths changes) place) (not (is_place_of (after state changes) place)) (is_false _ r.1) in
-      in_filter (λ p. not (is_written state changes p)) (places_of (after state changes)) place
-      (in_of_contains (places_of (after state changes)) place (place_from_test (after state changes) place (is_true _ parts.1)))
-      (ap not (or_from _ _ parts.0 (ap not (is_place state place (contains_of_in (places_of state) place r.0))))))
+    let r = in_filter_from (λ p. not (is_given_up state changes p)) (places_of state) place i in
+    let parts = or_parts (leads_to (changed_paths changes) place) (not (is_place_of (after state changes) place)) (is_false _ r.1) in
+    in_filter (λ p. not (is_written state changes p)) (places_of (after state changes)) place
+    (in_of_contains (places_of (after state changes)) place (place_from_test (after state changes) place (is_true _ parts.1)))
+    (ap not (or_from _ _ parts.0 (ap not (is_place state place (contains_of_in (places_of state) place r.0))))))
 
 -- and have the same texts
 kept_texts : (state : State) (changes : Changes) → map (text_at (after state changes)) (kept_in_new state changes) ≡ map (text_at state) (kept_of_old state changes)

@@ -90,8 +90,8 @@ begin_alike x y prefix rows all some =
     elim (cases_eq x y) [
       | inl same ↦ same
       | inr apart ↦ absurd (some (
-        ap (below (x ∷ [])) (sym (under-below (y ∷ prefix) rows all) ∙ under-cons y prefix (below (y ∷ prefix) rows))
-        ∙ below-under_other x y (under prefix (below (y ∷ prefix) rows)) apart))
+          ap (below (x ∷ [])) (sym (under-below (y ∷ prefix) rows all) ∙ under-cons y prefix (below (y ∷ prefix) rows))
+          ∙ below-under_other x y (under prefix (below (y ∷ prefix) rows)) apart))
     ]
 
 all_begin : (y : ℕ) (prefix : List ℕ) (rows : List Row) → AllHavePrefix (y ∷ prefix) rows → AllHavePrefix (y ∷ []) rows

@@ -61,13 +61,13 @@ module _ {X : Type 0} where
   all_of_found P (e ∷ es) h each = (
     each e.0 e.1 (ap (λ r. cond (is_eq r) (Some e.1) (find (slice_cmp nat_cmp) e.0 es)) (tied_itself nat_list_cmp_total e.0)),
     all_of_found P es (second_test _ _ h) (λ q v found. each q v (
-      elim (ties q e.0) as (λ b. ties q e.0 ≡ b → cond b (Some e.1) (find (slice_cmp nat_cmp) q es) ≡ Some v) [
-        | true ↦ λ t.
-            let same : q ≡ e.0 = same_of_ties q e.0 t in
-            let none : find (slice_cmp nat_cmp) q es ≡ None = subst (λ (k : List ℕ). find (slice_cmp nat_cmp) k es ≡ None) (sym same) (find_before e.0 es (first_test _ _ h)) in
-            absurd (not_found v (sym none ∙ found))
-        | false ↦ λ t. found
-      ] refl)),
+        elim (ties q e.0) as (λ b. ties q e.0 ≡ b → cond b (Some e.1) (find (slice_cmp nat_cmp) q es) ≡ Some v) [
+          | true ↦ λ t.
+              let same : q ≡ e.0 = same_of_ties q e.0 t in
+              let none : find (slice_cmp nat_cmp) q es ≡ None = subst (λ (k : List ℕ). find (slice_cmp nat_cmp) k es ≡ None) (sym same) (find_before e.0 es (first_test _ _ h)) in
+              absurd (not_found v (sym none ∙ found))
+          | false ↦ λ t. found
+        ] refl)),
   )
     where
       not_found : (v : X) → None ≡ Some v → ⊥
@@ -142,12 +142,12 @@ where_key-agree {X} p m n agree =
     (is_sorted-where_key (slice_cmp nat_cmp) p (entries m) (entries_sorted m))
     (is_sorted-where_key (slice_cmp nat_cmp) p (entries n) (entries_sorted n))
     (λ q.
-      find-where_key (slice_cmp nat_cmp) p q (alike q) (entries m)
-      ∙ elim (p q) as (λ b. p q ≡ b → cond b (find (slice_cmp nat_cmp) q (entries m)) None ≡ cond b (find (slice_cmp nat_cmp) q (entries n)) None) [
-        | true ↦ λ t. sym (get-entries m q) ∙ agree q t ∙ get-entries n q
-        | false ↦ λ t. refl
-      ] refl
-      ∙ sym (find-where_key (slice_cmp nat_cmp) p q (alike q) (entries n)))
+    find-where_key (slice_cmp nat_cmp) p q (alike q) (entries m)
+    ∙ elim (p q) as (λ b. p q ≡ b → cond b (find (slice_cmp nat_cmp) q (entries m)) None ≡ cond b (find (slice_cmp nat_cmp) q (entries n)) None) [
+      | true ↦ λ t. sym (get-entries m q) ∙ agree q t ∙ get-entries n q
+      | false ↦ λ t. refl
+    ] refl
+    ∙ sym (find-where_key (slice_cmp nat_cmp) p q (alike q) (entries n)))
   where
     alike : (q x : List ℕ) → slice_cmp nat_cmp q x ≡ Equal → p x ≡ p q
     alike q x e = ap p (sym (same_key q x e))

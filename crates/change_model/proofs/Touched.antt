@@ -144,14 +144,13 @@ untouched_stays state changes place is are h untouched =
     apart : leads_to (changed_paths changes) place ≡ false → remains_alone state changes place ≡ false → (q : List ℕ) (x : ℕ) → place ≡ q ++ x ∷ [] → Fork (below q (rows_of state)) → AllHavePrefix (x ∷ []) (below q (rows_of (after state changes))) → ⊥
     apart none alone q x path f all =
         false≢true (sym alone ∙ subst (λ (p : List ℕ). remains_alone state changes p ≡ true) (sym path) (
-          subst (λ (p : List ℕ). (not (length (q ++ x ∷ []) == 0) && is_branch (subtree_at state p) && not (leads_to (changed_paths changes) (q ++ x ∷ [])) && all_stand_below (rows_of (after state changes)) p (q ++ x ∷ [])) ≡ true) (sym (above-behind q x))
-          (and_from _ _ (and_from _ _ (and_from _ _ (not_root q x) f) (ap not (subst (λ (p : List ℕ). leads_to (changed_paths changes) p ≡ false) path none))) (prefix-all_below (rows_of (after state changes)) q (x ∷ []) all))))
+        subst (λ (p : List ℕ). (not (length (q ++ x ∷ []) == 0) && is_branch (subtree_at state p) && not (leads_to (changed_paths changes) (q ++ x ∷ [])) && all_stand_below (rows_of (after state changes)) p (q ++ x ∷ [])) ≡ true) (sym (above-behind q x))
+        (and_from _ _ (and_from _ _ (and_from _ _ (not_root q x) f) (ap not (subst (λ (p : List ℕ). leads_to (changed_paths changes) p ≡ false) path none))) (prefix-all_below (rows_of (after state changes)) q (x ∷ []) all))))
 
 pub unwritten_stays : (state : State) (changes : Changes) (place : List ℕ) → is_written state changes place ≡ false → Contains (places_of state) place × (text_at (after state changes) place ≡ text_at state place)
 unfolding is_written
 unwritten_stays state changes place h =
-    let parts = or_parts (leads_to (changed_paths changes) place) (not (is_place_of state place)) h in
-    (
+    let parts = or_parts (leads_to (changed_paths changes) place) (not (is_place_of state place)) h in (
       place_from_test state place (true_from_ne_false (is_place_of state place) (λ e. false≢true (sym parts.1 ∙ ap not e))),
       text_at-same (after state changes) state place place (below-after state changes place parts.0),
     )

@@ -39,11 +39,11 @@ entries-remove state key =
     (entries_sorted (remove state key))
     (is_sorted-where_key (slice_cmp nat_cmp) (λ k. not (ties key k)) (entries state) (entries_sorted state))
     (λ q.
-      sym (get-entries (remove state key) q)
-      ∙ get-remove nat_list_cmp_total state key q
-      ∙ turned (ties q key) (get state q)
-      ∙ ap₂ (λ (b : Bool) (o : Option (List ℕ)). cond (not b) o None) ((eq_by_cmp_equiv nat_list_cmp_total).symm q key) (get-entries state q)
-      ∙ sym (find-where_key (slice_cmp nat_cmp) (λ k. not (ties key k)) q (λ x e. ap (λ (k : List ℕ). not (ties key k)) (sym (same_key q x e))) (entries state)))
+    sym (get-entries (remove state key) q)
+    ∙ get-remove nat_list_cmp_total state key q
+    ∙ turned (ties q key) (get state q)
+    ∙ ap₂ (λ (b : Bool) (o : Option (List ℕ)). cond (not b) o None) ((eq_by_cmp_equiv nat_list_cmp_total).symm q key) (get-entries state q)
+    ∙ sym (find-where_key (slice_cmp nat_cmp) (λ k. not (ties key k)) q (λ x e. ap (λ (k : List ℕ). not (ties key k)) (sym (same_key q x e))) (entries state)))
   where
     turned : (b : Bool) (o : Option (List ℕ)) → cond b None o ≡ cond (not b) o None
     turned true o = refl

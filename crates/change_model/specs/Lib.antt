@@ -8,10 +8,11 @@ pub mod Ledger
 pub mod Exchange
 -- what a batch visits over any set of texts, and the first test that fails
 pub mod Visits
--- a table that has the texts which a batch touches
 -- what a batch can tell of what is seen
 pub mod Along
+-- a table that has the texts which a batch touches
 pub mod Tables
 -- what the laws speak of
 pub mod Laws
+-- the worked batches
 pub mod Examples
