@@ -120,9 +120,9 @@ apart-behind p (change ∷ changes) apart =
     elim (rest_behind p change.0) as (λ r. rest_behind p change.0 ≡ r → Apart (cons_option (option_map (λ rest. (rest, change.1)) r) (changes_behind p changes))) [
       | None ↦ λ e. apart-behind p changes apart.1
       | Some rest ↦ λ e. (
-        found_at-changes_behind p rest changes ∙ ap (λ (q : List ℕ). found_at q changes) (sym (prefix_and_rest p change.0 rest e)) ∙ apart.0,
-        apart-behind p changes apart.1,
-      )
+          found_at-changes_behind p rest changes ∙ ap (λ (q : List ℕ). found_at q changes) (sym (prefix_and_rest p change.0 rest e)) ∙ apart.0,
+          apart-behind p changes apart.1,
+        )
     ] refl
 
 pub found_sets : (changes : List Change) (q v : List ℕ) → found_at q changes ≡ Some (Some v) → sets_some changes ≡ true
@@ -142,15 +142,12 @@ unfolding Apart found_at
 sets_found [] apart e = cc
 sets_found ((path, Some v) ∷ changes) apart e = (path, v, ap (λ b. if b then Some (Some v) else found_at path changes) (same_itself path))
 sets_found ((path, None) ∷ changes) apart e =
-    let r = sets_found changes apart.1 e in (
-      r.0,
-      r.1,
-      (
-          elim (same_path path r.0) as (λ b. same_path path r.0 ≡ b → (if b then Some None else found_at r.0 changes) ≡ Some (Some r.1)) [
-            | true ↦ λ t. absurd (not_found r.1 (sym apart.0 ∙ ap (λ (q : List ℕ). found_at q changes) (path_of_test path r.0 t) ∙ r.2))
-            | false ↦ λ t. r.2
-          ] refl),
-    )
+    let r = sets_found changes apart.1 e in
+    (r.0, r.1, (
+      elim (same_path path r.0) as (λ b. same_path path r.0 ≡ b → (if b then Some None else found_at r.0 changes) ≡ Some (Some r.1)) [
+        | true ↦ λ t. absurd (not_found r.1 (sym apart.0 ∙ ap (λ (q : List ℕ). found_at q changes) (path_of_test path r.0 t) ∙ r.2))
+        | false ↦ λ t. r.2
+      ] refl))
   where
     not_found : (v : List ℕ) → None ≡ Some (Some v) → ⊥
     not_found v e = cc
@@ -351,9 +348,9 @@ apart-change_rows changes = go (entries changes) (entries_sorted changes)
     go [] h = tt
     go (e ∷ es) h = (
       found_at-nibbles (nibbles e.0) es
-          ∙ elim (same_path (nibbles (key_of (nibbles e.0))) (nibbles e.0)) as (λ b. (if b then find (slice_cmp nat_cmp) (key_of (nibbles e.0)) es else None) ≡ None) [
-            | true ↦ ap (λ (k : List ℕ). find (slice_cmp nat_cmp) k es) (key_of-nibbles e.0) ∙ find_before e.0 es (first _ _ h)
-            | false ↦ refl
-          ],
+      ∙ elim (same_path (nibbles (key_of (nibbles e.0))) (nibbles e.0)) as (λ b. (if b then find (slice_cmp nat_cmp) (key_of (nibbles e.0)) es else None) ≡ None) [
+        | true ↦ ap (λ (k : List ℕ). find (slice_cmp nat_cmp) k es) (key_of-nibbles e.0) ∙ find_before e.0 es (first _ _ h)
+        | false ↦ refl
+      ],
       go es (second _ _ h),
     )

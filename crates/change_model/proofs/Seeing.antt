@@ -178,7 +178,8 @@ module _ (table : Table) where
   seen_along (leaf path value) changes depth after_extension room fits held there = top_seen_as (leaf path value) depth after_extension room fits held tt
   seen_along (branch value kids) changes depth after_extension room fits held there =
       let n : Node = node.branch (option_map value_ref value) (λ x. name_of (kids x) (text (kids x))) in
-      let deeper = branch_room depth after_extension (option_map value_ref value) (λ x. name_of (kids x) (text (kids x))) (place_fits depth after_extension n fits.0.1) in (
+      let deeper = branch_room depth after_extension (option_map value_ref value) (λ x. name_of (kids x) (text (kids x))) (place_fits depth after_extension n fits.0.1) in
+      (
         (λ x. child_view (depth + 1) (kids x)),
         top_seen_as (branch value kids) depth after_extension room fits held.0 tt,
         (λ x small. child_along (depth + 1) (kids x) (changes_behind (x ∷ []) changes) deeper (fits.1 x) (seen_along (kids x) (changes_behind (x ∷ []) changes)) (held.1 x small)),
@@ -186,7 +187,8 @@ module _ (table : Table) where
       )
   seen_along (extension path child) changes depth after_extension room fits held there =
       let n : Node = node.extension path (sha256 (text child)) in
-      let deeper = extension_room depth after_extension path (sha256 (text child)) (place_fits depth after_extension n fits.0.1) in (
+      let deeper = extension_room depth after_extension path (sha256 (text child)) (place_fits depth after_extension n fits.0.1) in
+      (
         seen_at table (depth + length path) true (sha256 (text child)),
         top_seen_as (extension path child) depth after_extension room fits held.0 tt,
         below_along (depth + length path) child (changes_behind path changes) (omega arith) fits.1 fits.2 (seen_along child (changes_behind path changes)) held.1,
