@@ -1,6 +1,6 @@
 use Rattle.std.proofs.Common.{map, refl, ◌∙◌, ap}
 use Rattle.hex.specs.Hex.{encode_lower}
-use Rattle.change_model.proofs.Worked.{all_of_batches, worked, touched_of, touched-told, written_of, written-told, made_of, made-told, gains_of, gains-told, taken_of, taken-told, losses_of, losses-told, fresh_of, fresh-told, gone_of, gone-told}
+use Rattle.change_model.proofs.Worked.{all_of_batches, worked, touched_of, touched-told, written_of, written-told, made_of, made-told, gains_of, gains-told, taken_of, taken-told, losses_of, losses-told}
 use Rattle.change_model.proofs.examples.one_of_two_alike_deleted.Goals as goal
 
 pub returns-clause-touched : goal.returns-clause-touched
