@@ -11,7 +11,7 @@ use Rattle.byte_model.specs.Nibbles.{nibbles}
 use Rattle.trie_model.specs.State.{State, Row, rows_of}
 use Rattle.trie_model.specs.Tree.{Tree, below, tree_of}
 use Rattle.trie_model.specs.Texts.{text, places}
-use Rattle.trie_model.specs.Root.{subtree_at, texts_of}
+use Rattle.trie_model.specs.Root.{subtree_at, text_at, texts_of}
 use Rattle.trie_model.proofs.Worked.{Pair, rows_of_pairs, everything}
 use Rattle.change_model.specs.Changes.{Changes, Change, after_change, after_each, after}
 use Rattle.change_model.specs.Places.{above, is_branch, all_stand_below, leads_to, is_touched, remains_alone, touched_places, is_written, written_places}
@@ -85,6 +85,9 @@ abbrev pub touched_of : List Pair → List Pair → List Change → List (List �
 touched_of pairs later changes =
     filter (λ place. leads_to (paths_of changes) place || (not (length place == 0) && is_branch (subtree_of pairs (above place)) && not (leads_to (paths_of changes) place) && all_stand_below (rows_of_pairs later) (above place) place)) (places (subtree_of pairs []))
 
+abbrev pub sizes_of : List Pair → List Pair → List Change → List ℕ
+sizes_of pairs later changes = map (λ place. length (text (subtree_of pairs place))) (touched_of pairs later changes)
+
 abbrev pub written_of : List Pair → List Pair → List Change → List (List ℕ)
 written_of pairs later changes = filter (λ place. leads_to (paths_of changes) place || not (list_any (λ other. pointwise nat_eq other place) (places (subtree_of pairs [])))) (places (subtree_of later []))
 
@@ -121,6 +124,10 @@ module _ (state : State) (changes : Changes) where
   pub touched-told : touched_places state [] changes ≡ touched_of (entries state) (entries (after state changes)) (entries changes)
   unfolding is_touched remains_alone subtree_at rows_of
   touched-told = refl
+
+  pub sizes-told : map (λ place. length (text_at state place)) (touched_places state [] changes) ≡ sizes_of (entries state) (entries (after state changes)) (entries changes)
+  unfolding is_touched remains_alone subtree_at rows_of
+  sizes-told = refl
 
   pub written-told : written_places state changes ≡ written_of (entries state) (entries (after state changes)) (entries changes)
   unfolding is_written subtree_at rows_of

@@ -1,11 +1,15 @@
 use Rattle.std.proofs.Common.{map, refl, ◌∙◌, ap}
 use Rattle.hex.specs.Hex.{encode_lower}
-use Rattle.change_model.proofs.Worked.{all_of_batches, worked, touched_of, touched-told, written_of, written-told, made_of, made-told, gains_of, gains-told, taken_of, taken-told, losses_of, losses-told, fresh_of, fresh-told, gone_of, gone-told}
+use Rattle.change_model.proofs.Worked.{all_of_batches, worked, touched_of, touched-told, sizes_of, sizes-told, written_of, written-told, made_of, made-told, gains_of, gains-told, taken_of, taken-told, losses_of, losses-told, fresh_of, fresh-told, gone_of, gone-told}
 use Rattle.change_model.proofs.examples.one_of_two_deleted.Goals as goal
 
 pub returns-clause-touched : goal.returns-clause-touched
 unfolding all_of_batches
 returns-clause-touched c = touched-told _ _ ∙ worked touched_of _ _ _ tt tt refl
+
+pub returns-clause-sizes : goal.returns-clause-sizes
+unfolding all_of_batches
+returns-clause-sizes c = sizes-told _ _ ∙ worked sizes_of _ _ _ tt tt refl
 
 pub returns-clause-written : goal.returns-clause-written
 unfolding all_of_batches
