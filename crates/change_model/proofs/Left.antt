@@ -60,7 +60,7 @@ any_below_from f (suc n) e =
 
 -- ---- rows
 
-pub has_rows : List Row → Bool
+unfoldable pub has_rows : List Row → Bool
 has_rows [] = false
 has_rows (row ∷ rows) = true
 
@@ -89,7 +89,7 @@ ends_here-found_at (([], value) ∷ rows) = refl
 ends_here-found_at ((x ∷ path, value) ∷ rows) = ends_here-found_at rows
 
 -- a nibble at which something is found
-small_found : (rows : List Row) (x : ℕ) (q v : List ℕ) → Small rows → found_at (x ∷ q) rows ≡ Some v → x < 16
+pub small_found : (rows : List Row) (x : ℕ) (q v : List ℕ) → Small rows → found_at (x ∷ q) rows ≡ Some v → x < 16
 unfolding found_at
 small_found [] x q v small e = cc
 small_found (row ∷ rows) x q v small e =

@@ -10,3 +10,6 @@ pub mod Seeing
 pub mod Laid
 pub mod Left
 pub mod Worked
+pub mod Alone
+pub mod Merging
+pub mod Touching

@@ -72,7 +72,7 @@ above-behind q x =
     let n : length (q ++ x ∷ []) - 1 ≡ length q = omega (arith, length-append q (x ∷ [])) in
     ap (λ m. take m (q ++ x ∷ [])) n ∙ take-append_seam q (x ∷ [])
 
-not_root : (q : List ℕ) (x : ℕ) → not (length (q ++ x ∷ []) == 0) ≡ true
+pub not_root : (q : List ℕ) (x : ℕ) → not (length (q ++ x ∷ []) == 0) ≡ true
 not_root q x =
     let n : length (q ++ x ∷ []) ≡ length q + 1 = length-append q (x ∷ []) in
     let test : (length (q ++ x ∷ []) == 0) ≡ false = grind (arith, nat_tests) in
@@ -99,7 +99,7 @@ rest_some : (prefix path : List ℕ) → HasPrefix prefix path → has_prefix pa
 rest_some prefix path h = ap is_some (ap (rest_behind prefix) h.1 ∙ rest_behind-prefix prefix h.0)
 
 -- said by a test, and said of the rows below
-all_below-prefix : (rows : List Row) (outer r : List ℕ) → all_stand_below rows outer (outer ++ r) ≡ true → AllHavePrefix r (below outer rows)
+pub all_below-prefix : (rows : List Row) (outer r : List ℕ) → all_stand_below rows outer (outer ++ r) ≡ true → AllHavePrefix r (below outer rows)
 unfolding below
 all_below-prefix [] outer r h = tt
 all_below-prefix (row ∷ rows) outer r h =
@@ -111,7 +111,7 @@ all_below-prefix (row ∷ rows) outer r h =
     go None t further = further
     go (Some rest) t further = (some_rest r rest t, further)
 
-prefix-all_below : (rows : List Row) (outer r : List ℕ) → AllHavePrefix r (below outer rows) → all_stand_below rows outer (outer ++ r) ≡ true
+pub prefix-all_below : (rows : List Row) (outer r : List ℕ) → AllHavePrefix r (below outer rows) → all_stand_below rows outer (outer ++ r) ≡ true
 unfolding below
 prefix-all_below [] outer r h = refl
 prefix-all_below (row ∷ rows) outer r h =
