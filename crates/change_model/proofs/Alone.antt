@@ -6,7 +6,7 @@ use Rattle.std.proofs.lemmas.Bool.{false≢true, and_parts, and_from, true_from_
 use Rattle.trie_model.specs.State.{Row}
 use Rattle.trie_model.specs.Tree.{rest_behind, below, tree_of}
 use Rattle.trie_model.proofs.Members.{IsIn, all_of}
-use Rattle.trie_model.proofs.Rests.{AllHavePrefix, HasPrefix, below-nil, below-append, rest_behind-append}
+use Rattle.trie_model.proofs.Rests.{AllHavePrefix, HasPrefix, below-nil, below-append, rest_behind-append, rest_behind-prefix}
 use Rattle.visit_model.specs.Bounds.{has_prefix}
 use Rattle.change_model.specs.Changes.{Change, found_at, decided}
 use Rattle.change_model.specs.Places.{above, is_branch, all_stand_below, leads_to}
@@ -181,3 +181,30 @@ untouched-behind r q rows changes later laid none some =
 pub untouched-here : (r : List ℕ) (rows : List Row) (changes : List Change) (later : List Row) → changes_behind r changes ≡ [] → touched rows changes later r ≡ alone rows changes later r
 unfolding touched
 untouched-here r rows changes later none = ap (λ b. b || alone rows changes later r) (leads_to-here r changes ∙ ap (λ (cs : List Change). not (is_untouched cs)) none)
+
+all_behind : (p : List ℕ) (x : ℕ) (rows : List Row) → AllHavePrefix (p ++ x ∷ []) rows → AllHavePrefix (x ∷ []) (below p rows)
+unfolding below
+all_behind p x [] all = tt
+all_behind p x (row ∷ rows) all = go (rest_behind p row.0) refl (all_behind p x rows all.1)
+  where
+    go : (o : Option (List ℕ)) → rest_behind p row.0 ≡ o → AllHavePrefix (x ∷ []) (below p rows) → AllHavePrefix (x ∷ []) (cons_option (option_map (λ rest. (rest, row.1)) o) (below p rows))
+    go None e further = further
+    go (Some rest) e further =
+        let here : row.0 ≡ (p ++ x ∷ []) ++ all.0.0 = all.0.1 in
+        let is : rest ≡ x ∷ all.0.0 = some_same rest (x ∷ all.0.0) (sym e ∙ ap (rest_behind p) (here ∙ append_assoc p (x ∷ []) all.0.0) ∙ rest_behind-prefix p (x ∷ all.0.0)) in
+        ((all.0.0, is), further)
+      where
+        some_same : (r q : List ℕ) → Some r ≡ Some q → r ≡ q
+        some_same r q e = cc
+
+-- Rows that share a prefix don't fork above it, so the place behind the prefix does not remain alone.
+pub shared_not_alone : (r : List ℕ) (rows : List Row) (changes : List Change) (later : List Row) → r ≢ [] → AllHavePrefix r rows → alone rows changes later r ≡ false
+shared_not_alone r rows changes later some all = false_from_ne_true (alone rows changes later r) (λ e. go (split_last r) e)
+  where
+    go : (r ≡ []) ⊎ ((p : List ℕ) × (x : ℕ) × (r ≡ p ++ x ∷ [])) → alone rows changes later r ≡ true → ⊥
+    go (inl none) e = some none
+    go (inr s) e =
+        let p : List ℕ = s.0 in
+        let x : ℕ = s.1 in
+        let h = alone_to rows changes later p x (subst (λ (w : List ℕ). alone rows changes later w ≡ true) s.2 e) in
+        fork-prefix x [] (below p rows) (all_behind p x rows (subst (λ (w : List ℕ). AllHavePrefix w rows) s.2 all)) h.fork
