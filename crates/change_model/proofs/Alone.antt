@@ -148,7 +148,7 @@ none_alone rows later q laid some = false_from_ne_true (alone rows [] later q) (
 
 -- ---- touched places
 
-pub touched : List Row → List Change → List Row → List ℕ → Bool
+unfoldable pub touched : List Row → List Change → List Row → List ℕ → Bool
 touched rows changes later place = leads_to (paths_of changes) place || alone rows changes later place
 
 pub touched-def : (rows : List Row) (changes : List Change) (later : List Row) (place : List ℕ) → touched rows changes later place ≡ (leads_to (paths_of changes) place || alone rows changes later place)

@@ -13,3 +13,4 @@ pub mod Worked
 pub mod Alone
 pub mod Merging
 pub mod Touching
+pub mod Visited

@@ -149,7 +149,7 @@ module _ (table : Table) where
   -- ---- along the changes
 
   -- the texts that a batch touches below a place are held
-  pub HeldAlong : Tree → List Change → Type 0
+  unfoldable pub HeldAlong : Tree → List Change → Type 0
   HeldAlong nothing changes = ⊤
   HeldAlong (leaf path value) changes = IsHeldText (leaf path value)
   HeldAlong (branch value kids) changes = IsHeldText (branch value kids)

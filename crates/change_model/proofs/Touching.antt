@@ -105,7 +105,7 @@ module _ (test : List ℕ → Bool) where
     pub passed : visits.refusal ≡ None
     pub counted : count_by test visits.digests ≡ n
 
-  passes-none : Passes no_visits 0
+  pub passes-none : Passes no_visits 0
   passes-none = record { passed = refl; counted = refl }
 
   passes-before : (a b : Visits) (m n : ℕ) → Passes a m → Passes b n → Passes (before a b) (m + n)
@@ -251,7 +251,7 @@ module _ (test : List ℕ → Bool) where
       subst (λ t. Passes (visits_at (shown t) changes) (sum_by (counts_at (row ∷ []) changes later) (places t))) (sym t)
       (passes-as _ (one digest + 0) _ (ap (λ n. n + 0) (sym root) ∙ sym (sum_by-cons (counts_at (row ∷ []) changes later) [] [])) (passes-before _ _ (one digest) 0 (passes-opened digest _ bound) (passes-closed digest _ _ (omega arith))))
 
-  tree_there : (rows : List Row) → has_rows rows ≡ true → tree_of rows ≢ nothing
+  pub tree_there : (rows : List Row) → has_rows rows ≡ true → tree_of rows ≢ nothing
   unfolding has_rows
   tree_there [] some e = absurd (false≢true some)
   tree_there (row ∷ []) some e = not_leaf row.0 row.1 (sym (tree_of-one row) ∙ e)
@@ -271,7 +271,7 @@ module _ (test : List ℕ → Bool) where
       go (x ∷ prefix) shared = not_extension _ _ (sym (tree_of-shares row next others x prefix shared) ∙ e)
 
   -- where no change stands, the later rows are there where the rows are
-  rows_before : (rows later : List Row) → IsLaid rows [] later → has_rows later ≡ true → has_rows rows ≡ true
+  pub rows_before : (rows later : List Row) → IsLaid rows [] later → has_rows later ≡ true → has_rows rows ≡ true
   unfolding found_at
   rows_before rows later laid some = let r = found_of_rows later some in has_rows-found rows r.0 r.1 (sym (laid.at r.0) ∙ r.2)
 
