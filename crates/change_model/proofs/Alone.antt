@@ -1,19 +1,18 @@
 -- Touched places, told by rows: which places of a trie are on the path of a change or remain alone, and how that is inherited by the rows below a path.
 use Rattle.std.proofs.Common.{◌≡◌, ◌≢◌, if◌then◌else◌, ℕ, ◌==◌, ◌&&◌, ◌||◌, not, Bool, true, false, List, [], ◌∷◌, ◌++◌, length, map, Option, None, Some, is_some, refl, sym, ◌∙◌, ap, ap₂, subst, ◌⊎◌, inl, inr, append_assoc, append-nil}
-use Rattle.std.specs.List.{AllByRecursion, cons_option, list_any}
+use Rattle.std.specs.List.{AllByRecursion, cons_option}
 use Rattle.std.specs.Option.{option_map, option_and_then}
-use Rattle.std.proofs.lemmas.Bool.{false≢true, and_parts, and_from, true_from_ne_false, false_from_ne_true}
+use Rattle.std.proofs.lemmas.Bool.{false≢true, and_parts, and_from, false_from_ne_true}
 use Rattle.trie_model.specs.State.{Row}
 use Rattle.trie_model.specs.Tree.{rest_behind, below, tree_of}
 use Rattle.trie_model.proofs.Members.{IsIn, all_of}
-use Rattle.trie_model.proofs.Rests.{AllHavePrefix, HasPrefix, below-nil, below-append, rest_behind-append, rest_behind-prefix}
-use Rattle.visit_model.specs.Bounds.{has_prefix}
-use Rattle.change_model.specs.Changes.{Change, found_at, decided}
+use Rattle.trie_model.proofs.Rests.{AllHavePrefix, HasPrefix, below-append, rest_behind-append, rest_behind-prefix}
+use Rattle.change_model.specs.Changes.{Change, found_at}
 use Rattle.change_model.specs.Places.{above, is_branch, all_stand_below, leads_to}
 use Rattle.change_model.specs.Visits.{changes_behind, is_untouched}
 use Rattle.change_model.proofs.Forks.{Fork, fork-prefix}
 use Rattle.change_model.proofs.Touched.{above-behind, not_root, split_last, all_below-prefix, prefix-all_below}
-use Rattle.change_model.proofs.Laid.{IsLaid, laid-below, same_path, path_of_test, test_of_path, same_tests, found_at-below}
+use Rattle.change_model.proofs.Laid.{IsLaid, laid-below, same_path, path_of_test, test_of_path, same_tests}
 
 -- ---- changes that lead to a path
 

@@ -1,12 +1,12 @@
 -- What a batch can't tell apart it visits alike.
-use Rattle.std.proofs.Common.{◌≡◌, ℕ, zero, suc, ◌+◌, ◌<◌, ◌++◌, if◌then◌else◌, Bool, true, false, List, [], ◌∷◌, Option, None, Some, is_some, refl, sym, ◌∙◌, ap, ap₂, subst, arith}
+use Rattle.std.proofs.Common.{◌≡◌, ℕ, zero, suc, ◌+◌, ◌<◌, ◌++◌, if◌then◌else◌, Bool, List, [], ◌∷◌, Option, None, Some, is_some, refl, sym, ◌∙◌, ap, ap₂, arith}
 use Rattle.std.specs.Prelude.{◌||◌}
 use Rattle.byte_model.specs.Node.{ValueRef}
 use Rattle.byte_model.specs.Below.{sum_below}
 use Rattle.trie_model.proofs.Joined.{sum_below-agree}
 use Rattle.visit_model.specs.Seen.{Seen, nothing, missing, bad, leaf, branch, extension, stated_usage}
 use Rattle.change_model.specs.Changes.{Change}
-use Rattle.change_model.specs.Visits.{Visits, Refusal, before, and_then, opened, closed, visits_below, changes_behind, is_untouched, sets_some, has_value_after, any_below, is_named, is_left, numbers_below, lone_child, merged_child, visit_alone, visits_at, where_touched, if_touched, merge_visits, merge_usage, branch_cost, extension_cost}
+use Rattle.change_model.specs.Visits.{Visits, before, opened, closed, visits_below, changes_behind, is_untouched, sets_some, has_value_after, any_below, is_named, is_left, numbers_below, lone_child, merged_child, visit_alone, visits_at, where_touched, if_touched, merge_visits, merge_usage, branch_cost, extension_cost}
 use Rattle.change_model.specs.Along.{digest_of, SameName, SameTop, IfTouched, SameAlong}
 
 -- ---- made of what is the same at each nibble
@@ -63,8 +63,8 @@ is_left-same (leaf digest usage path ref) other (c ∷ cs) same = ap (λ o. is_l
 is_left-same (branch digest usage ref kids) other (c ∷ cs) same =
     ap (λ o. is_left o (c ∷ cs)) same.1
     ∙ ap (λ b. is_untouched (c ∷ cs) || sets_some (c ∷ cs) || has_value_after ref (c ∷ cs) || b)
-      (any_below-agree (λ x. is_left (same.0 x) (changes_behind (x ∷ []) (c ∷ cs))) (λ x. is_left (kids x) (changes_behind (x ∷ []) (c ∷ cs))) 16
-      (λ x small. is_left-same (kids x) (same.0 x) (changes_behind (x ∷ []) (c ∷ cs)) (same.2 x small)))
+    (any_below-agree (λ x. is_left (same.0 x) (changes_behind (x ∷ []) (c ∷ cs))) (λ x. is_left (kids x) (changes_behind (x ∷ []) (c ∷ cs))) 16
+    (λ x small. is_left-same (kids x) (same.0 x) (changes_behind (x ∷ []) (c ∷ cs)) (same.2 x small)))
 is_left-same (extension digest usage path child) other (c ∷ cs) same =
     ap (λ o. is_left o (c ∷ cs)) same.1
     ∙ ap (λ b. is_untouched (c ∷ cs) || sets_some (c ∷ cs) || b) (is_left-same child same.0 (changes_behind path (c ∷ cs)) same.2)
@@ -138,11 +138,11 @@ visits_at-same (branch digest usage ref kids) other changes same =
     ap (λ o. visits_at o changes) same.1
     ∙ ap (λ m. branch_visits digest usage ref (λ x. where_touched (changes_behind (x ∷ []) changes) (visits_at (others x) (changes_behind (x ∷ []) changes))) (merge_visits others m) (sum_below (λ x. if_touched (changes_behind (x ∷ []) changes) (stated_usage (others x))) 16) (merge_usage others m)) merged
     ∙ ap₂ (λ v n. branch_visits digest usage ref (λ x. where_touched (changes_behind (x ∷ []) changes) (visits_at (others x) (changes_behind (x ∷ []) changes))) v (sum_below (λ x. if_touched (changes_behind (x ∷ []) changes) (stated_usage (others x))) 16) n)
-      (merge_visits-same kids others (merged_child ref kids changes) same.3) (merge_usage-same kids others (merged_child ref kids changes) same.3)
+    (merge_visits-same kids others (merged_child ref kids changes) same.3) (merge_usage-same kids others (merged_child ref kids changes) same.3)
     ∙ ap₂ (λ v n. before (opened digest usage) (before v (before (merge_visits kids (merged_child ref kids changes)) (closed digest usage (branch_cost ref + (n + merge_usage kids (merged_child ref kids changes)))))))
-      (visits_below-agree (λ x. where_touched (changes_behind (x ∷ []) changes) (visits_at (others x) (changes_behind (x ∷ []) changes))) (λ x. where_touched (changes_behind (x ∷ []) changes) (visits_at (kids x) (changes_behind (x ∷ []) changes))) 16
-      (λ x small. below (kids x) (others x) (changes_behind (x ∷ []) changes) (visits_at-same (kids x) (others x) (changes_behind (x ∷ []) changes)) (same.2 x small)))
-      (sum_below-agree _ _ 16 (λ x small. stated-below (kids x) (others x) (changes_behind (x ∷ []) changes) (same.2 x small)))
+    (visits_below-agree (λ x. where_touched (changes_behind (x ∷ []) changes) (visits_at (others x) (changes_behind (x ∷ []) changes))) (λ x. where_touched (changes_behind (x ∷ []) changes) (visits_at (kids x) (changes_behind (x ∷ []) changes))) 16
+    (λ x small. below (kids x) (others x) (changes_behind (x ∷ []) changes) (visits_at-same (kids x) (others x) (changes_behind (x ∷ []) changes)) (same.2 x small)))
+    (sum_below-agree _ _ 16 (λ x small. stated-below (kids x) (others x) (changes_behind (x ∷ []) changes) (same.2 x small)))
   where
     below : (s other : Seen) (cs : List Change) → (SameAlong s other cs → visits_at other cs ≡ visits_at s cs) → SameBelow s other cs → where_touched cs (visits_at other cs) ≡ where_touched cs (visits_at s cs)
     below s other [] further same = refl
@@ -150,8 +150,8 @@ visits_at-same (branch digest usage ref kids) other changes same =
 visits_at-same (extension digest usage path child) other changes same =
     ap (λ o. visits_at o changes) same.1
     ∙ ap₂ (λ v n. before (opened digest usage) (before v (closed digest usage (extension_cost path + n))))
-      (below child same.0 (changes_behind path changes) (visits_at-same child same.0 (changes_behind path changes)) same.2)
-      (stated-below child same.0 (changes_behind path changes) same.2)
+    (below child same.0 (changes_behind path changes) (visits_at-same child same.0 (changes_behind path changes)) same.2)
+    (stated-below child same.0 (changes_behind path changes) same.2)
   where
     below : (s other : Seen) (cs : List Change) → (SameAlong s other cs → visits_at other cs ≡ visits_at s cs) → SameBelow s other cs → where_touched cs (visits_at other cs) ≡ where_touched cs (visits_at s cs)
     below s other [] further same = refl

@@ -1,25 +1,25 @@
 -- What a batch takes out of the texts of a state and what it puts in: both states have the rest, text by text.
-use Rattle.std.proofs.Common.{◌≡◌, ℕ, ◌+◌, ◌-◌, ◌&&◌, ◌||◌, Bool, true, false, cond, not, T, length, List, [], ◌∷◌, ◌++◌, map, Option, None, Some, is_some, is_none, Contains, Ordering, Less, Equal, nat_cmp, refl, sym, ◌∙◌, ap, ap₂, subst, ◌⊎◌, inl, inr, arith}
+use Rattle.std.proofs.Common.{◌≡◌, ℕ, ◌+◌, ◌-◌, ◌&&◌, Bool, true, false, cond, not, T, length, List, [], ◌∷◌, map, Option, None, Some, is_some, is_none, Less, Equal, nat_cmp, refl, sym, ◌∙◌, ap, ap₂, subst, ◌⊎◌, inl, inr, arith}
 use Rattle.std.specs.List.{AllByRecursion, filter, filter_map, cons_option, sum_by, count_by}
 use Rattle.std.specs.List.Sorted.{IsStrictlySortedBy}
 use Rattle.std.specs.Option.{option_map}
-use Rattle.std.specs.Ordering.{is_eq, is_lt, ordering_reverse}
+use Rattle.std.specs.Ordering.{ordering_reverse}
 use Rattle.std.specs.Cmp.{tied_itself}
 use Rattle.std.specs.Cmp.Lexicographic.{slice_cmp, nat_list_cmp_total}
-use Rattle.std.specs.FinMap.{FinMap, entries, entries_sorted, get, get-entries, find, is_sorted}
+use Rattle.std.specs.FinMap.{entries, entries_sorted, get, get-entries, find, is_sorted}
 use Rattle.std.specs.FinMap.Entries.{where_key, below_all, find-where_key, is_sorted-where_key, same_entries}
-use Rattle.std.proofs.lemmas.Bool.{false≢true, or_parts, or_from, true_from_ne_false, false_from_ne_true}
+use Rattle.std.proofs.lemmas.Bool.{false≢true, or_parts, or_from}
 use Rattle.std.proofs.lemmas.List.Sums.{sum_by-cons, sum_by-append}
 use Rattle.std.proofs.lemmas.List.Folds.{fold-map}
 use Rattle.std.proofs.lemmas.List.Filters.{sum_by-filter_both}
 use Rattle.std.proofs.lemmas.List.Kept.{IsStrictlySortedBy-filter}
 use Rattle.byte_model.specs.Nibbles.{nibbles}
-use Rattle.trie_model.specs.State.{State, Row, rows_of, IsState}
+use Rattle.trie_model.specs.State.{State, Row, rows_of}
 use Rattle.trie_model.specs.Root.{texts_of, text_at, places_of}
 use Rattle.trie_model.proofs.Members.{IsIn, contains_of_in, in_of_contains, all_at}
 use Rattle.trie_model.proofs.Worked.{Pair, rows_of_pairs}
 use Rattle.trie_model.proofs.Order.{Before, Rising, rising-places_of}
-use Rattle.change_model.specs.Changes.{Changes, Change, after, decided, changed_paths, AreChanges}
+use Rattle.change_model.specs.Changes.{Changes, Change, after, decided, changed_paths}
 use Rattle.change_model.specs.Places.{leads_to, is_place_of, is_written, written_places}
 use Rattle.change_model.specs.Ledger.{set_values, made_texts, fresh, gone}
 use Rattle.change_model.specs.Exchange.{is_given_up, former_values, taken_texts}

@@ -1,20 +1,20 @@
 -- Places of the new state that are no places of the old one and not on the path of a changed key: each is cut out of a touched leaf or extension.
-use Rattle.std.proofs.Common.{◌≡◌, ◌≢◌, ℕ, ◌<◌, Bool, true, false, cond, List, [], ◌∷◌, ◌++◌, Option, None, Some, Contains, refl, sym, ◌∙◌, ap, ap₂, subst, ◌⊎◌, inl, inr, append_assoc, append-nil}
-use Rattle.std.specs.List.{AllByRecursion, cons_option, filter}
+use Rattle.std.proofs.Common.{◌≡◌, ◌≢◌, ℕ, ◌<◌, true, false, List, [], ◌∷◌, ◌++◌, Option, None, Some, Contains, refl, sym, ◌∙◌, ap, ap₂, subst, ◌⊎◌, inl, inr, append_assoc}
+use Rattle.std.specs.List.{cons_option}
 use Rattle.std.specs.Option.{option_map}
 use Rattle.std.proofs.lemmas.Bool.{false≢true, cases_eq, or_left, true_from_ne_false, false_from_ne_true}
 use Rattle.trie_model.specs.State.{State, Row, rows_of, IsState}
-use Rattle.trie_model.specs.Tree.{Tree, branch, extension, rest_behind, below, ends_here, common_prefix, tree_of}
+use Rattle.trie_model.specs.Tree.{branch, extension, rest_behind, below, ends_here, tree_of}
 use Rattle.trie_model.specs.Texts.{places}
 use Rattle.trie_model.specs.Root.{places_of, subtree_at}
 use Rattle.trie_model.proofs.Members.{IsIn, contains_of_in, in_of_contains, all_at, all_of}
 use Rattle.trie_model.proofs.Rests.{HasPrefix, HasPrefix-HasPrefix, AllHavePrefix, common_prefix-all, under, under-below, below-under, below-nil, below-none, below-append, prefix_and_rest}
-use Rattle.trie_model.proofs.Trees.{tree_of-nil, tree_of-one, tree_of-forks, tree_of-shares, by_cases}
+use Rattle.trie_model.proofs.Trees.{tree_of-forks, tree_of-shares, by_cases}
 use Rattle.trie_model.proofs.Children.{root_is_place, in_branch, in_extension}
 use Rattle.trie_model.proofs.Growth.{below-under_other}
 use Rattle.trie_model.proofs.Pairs.{Small, small-below, small-rows_of}
 use Rattle.change_model.specs.Changes.{Changes, after, changed_paths, AreChanges}
-use Rattle.change_model.specs.Places.{above, is_branch, is_touched, is_written, leads_to, is_place_of, remains_alone}
+use Rattle.change_model.specs.Places.{above, is_branch, is_touched, leads_to, is_place_of}
 use Rattle.change_model.specs.Laws.{IsCut}
 use Rattle.change_model.proofs.Laying.{below-after}
 use Rattle.change_model.proofs.Filtered.{in_filter}

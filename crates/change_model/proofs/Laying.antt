@@ -1,11 +1,11 @@
 -- A batch laid over a state: what each key has afterwards, and that what stands below a path on which no change stands is as before.
-use Rattle.std.proofs.Common.{◌≡◌, ℕ, Bool, true, false, cond, not, ◌&&◌, ◌||◌, T, List, [], ◌∷◌, map, Option, None, Some, is_some, refl, sym, ◌∙◌, ap, ap₂, subst, inl, inr, Ordering, Less, Equal, Greater, nat_cmp}
-use Rattle.std.specs.List.{AllByRecursion, filter, filter_map, cons_option, list_any}
+use Rattle.std.proofs.Common.{◌≡◌, ℕ, Bool, true, false, cond, ◌&&◌, ◌||◌, T, List, [], ◌∷◌, map, Option, None, Some, is_some, refl, sym, ◌∙◌, ap, ap₂, subst, Ordering, Less, Equal, Greater, nat_cmp}
+use Rattle.std.specs.List.{AllByRecursion, cons_option, list_any}
 use Rattle.std.specs.Option.{option_map}
 use Rattle.std.specs.Ordering.{is_eq, is_lt, eq_by_cmp}
 use Rattle.std.specs.Cmp.{Equal-is, tied_itself}
 use Rattle.std.specs.Cmp.Lexicographic.{slice_cmp, nat_list_cmp_total}
-use Rattle.std.specs.FinMap.{FinMap, entries, entries_sorted, get, get-entries, insert, remove, get-insert, get-remove, find, is_sorted, slice_cmp-IsAntisymmetric, nat_cmp-IsAntisymmetric}
+use Rattle.std.specs.FinMap.{FinMap, entries, entries_sorted, get, get-entries, get-insert, get-remove, find, is_sorted, slice_cmp-IsAntisymmetric, nat_cmp-IsAntisymmetric}
 use Rattle.std.specs.FinMap.Entries.{where_key, below_all, find-where_key, is_sorted-where_key, same_entries}
 use Rattle.std.proofs.lemmas.Bool.{false≢true}
 use Rattle.byte_model.specs.Nibbles.{nibbles}

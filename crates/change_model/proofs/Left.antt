@@ -1,5 +1,5 @@
 -- Something is left below a place of a trie exactly where the later rows have something there.
-use Rattle.std.proofs.Common.{◌≡◌, ◌≢◌, ℕ, zero, suc, ◌+◌, ◌<◌, Bool, true, false, if◌then◌else◌, not, List, [], ◌∷◌, ◌++◌, map, Option, None, Some, is_some, ◌⊎◌, inl, inr, refl, sym, ◌∙◌, ap, ap₂, subst, arith, T}
+use Rattle.std.proofs.Common.{◌≡◌, ℕ, zero, suc, ◌<◌, Bool, true, false, if◌then◌else◌, not, List, [], ◌∷◌, map, Option, None, Some, is_some, ◌⊎◌, inl, inr, refl, sym, ◌∙◌, ap, subst, arith, T}
 use Rattle.std.specs.Prelude.{◌||◌, ◌&&◌, ⊤}
 use Rattle.std.specs.List.{cons_option}
 use Rattle.std.proofs.lemmas.Bool.{cases_lt}
@@ -10,16 +10,15 @@ use Rattle.std.proofs.Common.{nat_cmp}
 use Rattle.byte_model.specs.Nibbles.{nibbles, AreNibbles}
 use Rattle.byte_model.specs.Node.{ValueRef}
 use Rattle.trie_model.specs.State.{Row}
-use Rattle.trie_model.specs.Tree.{Tree, below, ends_here, rest_behind, common_prefix, tree_of}
+use Rattle.trie_model.specs.Tree.{below, ends_here, rest_behind, common_prefix, tree_of}
 use Rattle.trie_model.specs.Texts.{value_ref}
 use Rattle.trie_model.proofs.Rests.{HasPrefix, AllHavePrefix, common_prefix-all, below-none, prefix_and_rest}
 use Rattle.trie_model.proofs.Trees.{tree_of-nil, tree_of-one, tree_of-forks, tree_of-shares, by_cases}
 use Rattle.trie_model.proofs.Pairs.{Small, small-below}
-use Rattle.visit_model.specs.Seen.{Seen}
 use Rattle.visit_model.specs.Shown.{shown}
 use Rattle.visit_model.specs.Keys.{key_of}
 use Rattle.change_model.specs.Changes.{Changes, Change, change_rows, decided, found_at}
-use Rattle.change_model.specs.Visits.{changes_behind, is_untouched, sets_some, change_at, is_deletion, is_deleted, is_some_after, has_value_after, any_below, is_left}
+use Rattle.change_model.specs.Visits.{changes_behind, is_untouched, sets_some, is_deletion, is_deleted, is_some_after, has_value_after, any_below, is_left}
 use Rattle.change_model.proofs.Laying.{find_before}
 use Rattle.change_model.proofs.Laid.{IsLaid, laid-below, same_path, path_of_test, test_of_path, same_tests, found_at-below, found_at-changes_behind, found_at-nibbles, key_of-nibbles}
 
@@ -120,9 +119,9 @@ apart-behind p (change ∷ changes) apart =
     elim (rest_behind p change.0) as (λ r. rest_behind p change.0 ≡ r → Apart (cons_option (option_map (λ rest. (rest, change.1)) r) (changes_behind p changes))) [
       | None ↦ λ e. apart-behind p changes apart.1
       | Some rest ↦ λ e. (
-          found_at-changes_behind p rest changes ∙ ap (λ (q : List ℕ). found_at q changes) (sym (prefix_and_rest p change.0 rest e)) ∙ apart.0,
-          apart-behind p changes apart.1,
-        )
+        found_at-changes_behind p rest changes ∙ ap (λ (q : List ℕ). found_at q changes) (sym (prefix_and_rest p change.0 rest e)) ∙ apart.0,
+        apart-behind p changes apart.1,
+      )
     ] refl
 
 pub found_sets : (changes : List Change) (q v : List ℕ) → found_at q changes ≡ Some (Some v) → sets_some changes ≡ true
@@ -142,12 +141,15 @@ unfolding Apart found_at
 sets_found [] apart e = cc
 sets_found ((path, Some v) ∷ changes) apart e = (path, v, ap (λ b. if b then Some (Some v) else found_at path changes) (same_itself path))
 sets_found ((path, None) ∷ changes) apart e =
-    let r = sets_found changes apart.1 e in
-    (r.0, r.1, (
-      elim (same_path path r.0) as (λ b. same_path path r.0 ≡ b → (if b then Some None else found_at r.0 changes) ≡ Some (Some r.1)) [
-        | true ↦ λ t. absurd (not_found r.1 (sym apart.0 ∙ ap (λ (q : List ℕ). found_at q changes) (path_of_test path r.0 t) ∙ r.2))
-        | false ↦ λ t. r.2
-      ] refl))
+    let r = sets_found changes apart.1 e in (
+      r.0,
+      r.1,
+      (
+          elim (same_path path r.0) as (λ b. same_path path r.0 ≡ b → (if b then Some None else found_at r.0 changes) ≡ Some (Some r.1)) [
+            | true ↦ λ t. absurd (not_found r.1 (sym apart.0 ∙ ap (λ (q : List ℕ). found_at q changes) (path_of_test path r.0 t) ∙ r.2))
+            | false ↦ λ t. r.2
+          ] refl),
+    )
   where
     not_found : (v : List ℕ) → None ≡ Some (Some v) → ⊥
     not_found v e = cc
@@ -348,9 +350,9 @@ apart-change_rows changes = go (entries changes) (entries_sorted changes)
     go [] h = tt
     go (e ∷ es) h = (
       found_at-nibbles (nibbles e.0) es
-      ∙ elim (same_path (nibbles (key_of (nibbles e.0))) (nibbles e.0)) as (λ b. (if b then find (slice_cmp nat_cmp) (key_of (nibbles e.0)) es else None) ≡ None) [
-        | true ↦ ap (λ (k : List ℕ). find (slice_cmp nat_cmp) k es) (key_of-nibbles e.0) ∙ find_before e.0 es (first _ _ h)
-        | false ↦ refl
-      ],
+          ∙ elim (same_path (nibbles (key_of (nibbles e.0))) (nibbles e.0)) as (λ b. (if b then find (slice_cmp nat_cmp) (key_of (nibbles e.0)) es else None) ≡ None) [
+            | true ↦ ap (λ (k : List ℕ). find (slice_cmp nat_cmp) k es) (key_of-nibbles e.0) ∙ find_before e.0 es (first _ _ h)
+            | false ↦ refl
+          ],
       go es (second _ _ h),
     )

@@ -1,7 +1,6 @@
 -- Which child a branch is merged with: the one place below it that remains alone.
-use Rattle.std.proofs.Common.{◌≡◌, ◌≢◌, ℕ, zero, suc, ◌+◌, ◌<◌, ◌==◌, Bool, true, false, if◌then◌else◌, not, List, [], ◌∷◌, ◌++◌, Option, None, Some, is_some, option_map, ◌⊎◌, inl, inr, refl, sym, ◌∙◌, ap, ap₂, subst, arith}
-use Rattle.std.specs.List.{AllByRecursion}
-use Rattle.std.proofs.lemmas.Bool.{false≢true, cases_lt, cases_eq, true_from_ne_false, false_from_ne_true}
+use Rattle.std.proofs.Common.{◌≡◌, ◌≢◌, ℕ, zero, suc, ◌<◌, Bool, true, false, if◌then◌else◌, not, List, [], ◌∷◌, ◌++◌, Option, None, Some, is_some, option_map, inl, inr, refl, sym, ◌∙◌, ap, ap₂, subst, arith}
+use Rattle.std.proofs.lemmas.Bool.{false≢true, cases_lt, true_from_ne_false, false_from_ne_true}
 use Rattle.byte_model.specs.Node.{ValueRef}
 use Rattle.trie_model.specs.State.{Row}
 use Rattle.trie_model.specs.Tree.{below, ends_here, common_prefix, tree_of}
@@ -13,12 +12,12 @@ use Rattle.trie_model.proofs.Pairs.{Small, small-below}
 use Rattle.visit_model.specs.Seen.{Seen}
 use Rattle.visit_model.specs.Shown.{shown}
 use Rattle.change_model.specs.Changes.{Change, found_at, decided}
-use Rattle.change_model.specs.Places.{is_branch, leads_to}
+use Rattle.change_model.specs.Places.{is_branch}
 use Rattle.change_model.specs.Visits.{changes_behind, is_untouched, is_some_after, has_value_after, is_left, numbers_below, lone_child, merged_child}
 use Rattle.change_model.proofs.Forks.{Fork}
-use Rattle.change_model.proofs.Laid.{IsLaid, laid-below, same_path, path_of_test, found_at-below, found_at-changes_behind}
+use Rattle.change_model.proofs.Laid.{IsLaid, laid-below, found_at-below, found_at-changes_behind}
 use Rattle.change_model.proofs.Left.{Apart, apart-behind, has_rows, has_rows-found, found_of_rows, small_found, ends_here-found_at, left_as}
-use Rattle.change_model.proofs.Alone.{paths_of, leads_to-here, Alone, alone, alone_from, alone_to, found_all, all_found}
+use Rattle.change_model.proofs.Alone.{leads_to-here, Alone, alone, alone_from, alone_to, found_all, all_found}
 
 -- ---- the numbers at which a test holds
 
@@ -189,8 +188,8 @@ module _ (row next : Row) (others : List Row) (e : common_prefix row (next ∷ o
       still =
           laid.at (x ∷ there.0)
           ∙ ap₂ (λ (o : Option (Option (List ℕ))) (former : Option (List ℕ)). decided o former)
-            (sym (found_at-changes_behind (x ∷ []) there.0 changes) ∙ ap (λ (cs : List Change). found_at there.0 cs) none)
-            (sym (found_at-below (x ∷ []) there.0 rows) ∙ there.2)
+          (sym (found_at-changes_behind (x ∷ []) there.0 changes) ∙ ap (λ (cs : List Change). found_at there.0 cs) none)
+          (sym (found_at-below (x ∷ []) there.0 rows) ∙ there.2)
 
       nibble : x < 16
       nibble = small_found later x there.0 there.1 small still

@@ -1,5 +1,5 @@
 -- Where a table has the texts that a batch touches below a place of a trie, the batch can't tell what is seen there from the trie.
-use Rattle.std.proofs.Common.{◌≡◌, ℕ, zero, suc, ◌+◌, ◌-◌, if◌then◌else◌, Result, Ok, Err, ◌<◌, ◌≤◌, true, false, Bool, List, [], ◌∷◌, length, Option, None, Some, option_map, ◌⊎◌, inl, inr, refl, sym, ◌∙◌, ap, ap₂, subst, arith}
+use Rattle.std.proofs.Common.{◌≡◌, ℕ, zero, suc, ◌+◌, ◌-◌, if◌then◌else◌, Result, Ok, Err, ◌<◌, ◌≤◌, true, false, Bool, List, [], ◌∷◌, length, Option, None, Some, option_map, ◌⊎◌, inl, inr, refl, sym, ◌∙◌, ap, ap₂, arith}
 use Rattle.std.specs.Prelude.{⊤}
 use Rattle.std.specs.FinMap.{get}
 use Rattle.std.proofs.lemmas.Bool.{cases_lt}
@@ -8,7 +8,6 @@ use Rattle.sha2.specs.Sha256.{sha256}
 use Rattle.byte_model.specs.PackedPath.{longest_path}
 use Rattle.byte_model.specs.Node as node
 use Rattle.byte_model.specs.Node.{Node, ValueRef}
-use Rattle.byte_model.specs.Laws.{SameNode}
 use Rattle.trie_model.specs.Tree.{Tree, nothing, leaf, branch, extension}
 use Rattle.trie_model.specs.Texts.{text, usage, name_of, node_of, value_ref}
 use Rattle.trie_model.specs.Root.{Table}
@@ -17,9 +16,8 @@ use Rattle.record_model.specs.Records.{RecordFault, record_in}
 use Rattle.record_model.specs.Fits.{fits_at}
 use Rattle.visit_model.specs.Seen.{Seen, Looks, seen_child, seen_node, seen_text, seen_record, seen_within, seen_at}
 use Rattle.visit_model.specs.Shown.{shown}
-use Rattle.visit_model.proofs.SeenBounds.{seen_at-seen_text, place_fits, branch_room, extension_room}
-use Rattle.visit_model.proofs.ShownRecords.{NoKidsPast}
-use Rattle.visit_model.proofs.ShownFits.{IsThere, TopFits, FitsBelow}
+use Rattle.visit_model.proofs.SeenBounds.{place_fits, branch_room, extension_room}
+use Rattle.visit_model.proofs.ShownFits.{IsThere, FitsBelow}
 use Rattle.visit_model.proofs.ShownTrees.{TopSees, top_seen}
 use Rattle.change_model.specs.Changes.{Change}
 use Rattle.change_model.specs.Visits.{changes_behind, merged_child}
@@ -178,8 +176,7 @@ module _ (table : Table) where
   seen_along (leaf path value) changes depth after_extension room fits held there = top_seen_as (leaf path value) depth after_extension room fits held tt
   seen_along (branch value kids) changes depth after_extension room fits held there =
       let n : Node = node.branch (option_map value_ref value) (λ x. name_of (kids x) (text (kids x))) in
-      let deeper = branch_room depth after_extension (option_map value_ref value) (λ x. name_of (kids x) (text (kids x))) (place_fits depth after_extension n fits.0.1) in
-      (
+      let deeper = branch_room depth after_extension (option_map value_ref value) (λ x. name_of (kids x) (text (kids x))) (place_fits depth after_extension n fits.0.1) in (
         (λ x. child_view (depth + 1) (kids x)),
         top_seen_as (branch value kids) depth after_extension room fits held.0 tt,
         (λ x small. child_along (depth + 1) (kids x) (changes_behind (x ∷ []) changes) deeper (fits.1 x) (seen_along (kids x) (changes_behind (x ∷ []) changes)) (held.1 x small)),
@@ -187,8 +184,7 @@ module _ (table : Table) where
       )
   seen_along (extension path child) changes depth after_extension room fits held there =
       let n : Node = node.extension path (sha256 (text child)) in
-      let deeper = extension_room depth after_extension path (sha256 (text child)) (place_fits depth after_extension n fits.0.1) in
-      (
+      let deeper = extension_room depth after_extension path (sha256 (text child)) (place_fits depth after_extension n fits.0.1) in (
         seen_at table (depth + length path) true (sha256 (text child)),
         top_seen_as (extension path child) depth after_extension room fits held.0 tt,
         below_along (depth + length path) child (changes_behind path changes) (omega arith) fits.1 fits.2 (seen_along child (changes_behind path changes)) held.1,

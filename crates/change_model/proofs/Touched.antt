@@ -1,12 +1,11 @@
 -- What a batch does not touch stays, what it gives up it has touched, and above what remains alone there is no branch any more.
-use Rattle.std.proofs.Common.{◌≡◌, ◌≢◌, ℕ, nat_eq, ◌+◌, ◌-◌, ◌==◌, ◌&&◌, ◌||◌, not, Bool, true, false, List, [], ◌∷◌, ◌++◌, length, take, map, Option, None, Some, is_some, Contains, refl, sym, ◌∙◌, ap, ap₂, subst, ◌⊎◌, inl, inr, arith, length-append}
-use Rattle.std.specs.List.{AllByRecursion, cons_option, list_all, list_any}
+use Rattle.std.proofs.Common.{◌≡◌, ◌≢◌, ℕ, nat_eq, ◌+◌, ◌-◌, ◌==◌, ◌&&◌, ◌||◌, not, Bool, true, false, List, [], ◌∷◌, ◌++◌, length, take, Option, None, Some, is_some, Contains, refl, sym, ◌∙◌, ap, subst, ◌⊎◌, inl, inr, arith, length-append}
+use Rattle.std.specs.List.{AllByRecursion, cons_option, list_any}
 use Rattle.std.specs.Option.{option_map, option_and_then}
 use Rattle.std.specs.Cmp.Lexicographic.{pointwise, bytes_decides}
 use Rattle.std.proofs.Math.Seq.{take-append_seam}
 use Rattle.std.proofs.lemmas.Bool.{false≢true, and_parts, and_from, or_parts, or_from, or_left, or_right, true_from_ne_false, false_from_ne_true}
 use Rattle.std.proofs.lemmas.Bool.Decides.{nat_tests}
-use Rattle.byte_model.specs.Nibbles.{nibbles}
 use Rattle.byte_model.proofs.Digits.{AreNibbles-nibbles}
 use Rattle.trie_model.specs.State.{State, Row, rows_of, IsState, IsPair}
 use Rattle.trie_model.specs.Tree.{rest_behind, below, tree_of}
@@ -16,7 +15,7 @@ use Rattle.std.specs.FinMap.{entries}
 use Rattle.trie_model.proofs.Worked.{Pair, rows_of_pairs}
 use Rattle.trie_model.proofs.Members.{IsIn, contains_of_in, in_of_contains}
 use Rattle.trie_model.proofs.Rests.{HasPrefix, AllHavePrefix, below-nil, below-append, rest_behind-append, rest_behind-prefix, prefix_and_rest}
-use Rattle.trie_model.proofs.Pairs.{Small, small-rows_of}
+use Rattle.trie_model.proofs.Pairs.{Small}
 use Rattle.trie_model.proofs.Costs.{subtree_at-root, text_at-same}
 use Rattle.visit_model.specs.Bounds.{has_prefix}
 use Rattle.change_model.specs.Changes.{Changes, after, changed_paths, AreChanges}

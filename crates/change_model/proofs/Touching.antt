@@ -1,5 +1,5 @@
 -- Over a trie whose texts are all there, a batch visits the touched places, each once, and no test fails.
-use Rattle.std.proofs.Common.{◌≡◌, ◌≢◌, ℕ, zero, suc, ◌+◌, ◌<◌, ◌≤◌, ◌==◌, ◌^◌, Bool, true, false, cond, if◌then◌else◌, not, List, [], ◌∷◌, ◌++◌, length, map, sum_by, Option, None, Some, is_some, option_map, ◌⊎◌, inl, inr, refl, sym, ◌∙◌, ap, ap₂, subst, arith, append-nil}
+use Rattle.std.proofs.Common.{◌≡◌, ◌≢◌, ℕ, zero, suc, ◌+◌, ◌<◌, ◌≤◌, ◌==◌, Bool, true, false, cond, if◌then◌else◌, List, [], ◌∷◌, ◌++◌, length, sum_by, Option, None, Some, option_map, ◌⊎◌, inl, inr, refl, sym, ◌∙◌, ap, ap₂, subst, arith, append-nil}
 use Rattle.std.specs.Prelude.{nat_lt}
 use Rattle.std.specs.List.{count_by}
 use Rattle.std.proofs.lemmas.Bool.{false≢true, cases_lt, cases_eq}
@@ -13,17 +13,16 @@ use Rattle.trie_model.specs.State.{Row}
 use Rattle.trie_model.specs.Tree.{Tree, nothing, leaf, branch, extension, below, ends_here, common_prefix, tree_of}
 use Rattle.trie_model.specs.Texts.{text, usage, top_cost, value_ref, places, behind}
 use Rattle.trie_model.proofs.Joined.{sum_below-agree, sum_by-joined_below}
-use Rattle.trie_model.proofs.Members.{IsIn}
-use Rattle.trie_model.proofs.Rests.{AllHavePrefix, HasPrefix, below-nil, below-append, common_prefix-all}
+use Rattle.trie_model.proofs.Rests.{AllHavePrefix, below-nil, below-append, common_prefix-all}
 use Rattle.trie_model.proofs.Trees.{tree_of-nil, tree_of-one, tree_of-forks, tree_of-shares, by_cases}
 use Rattle.trie_model.proofs.Pairs.{Small, small-below}
-use Rattle.visit_model.specs.Seen.{Seen, stated_usage}
+use Rattle.visit_model.specs.Seen.{stated_usage}
 use Rattle.visit_model.specs.Shown.{shown}
 use Rattle.change_model.specs.Changes.{Change, found_at}
-use Rattle.change_model.specs.Visits.{Visits, Refusal, no_usage, no_visits, before, and_then, opened, closed, most_usage, visits_below, changes_behind, is_untouched, has_value_after, is_left, numbers_below, lone_child, merged_child, visit_alone, visits_at, where_touched, if_touched, merge_visits, merge_usage, leaf_cost, branch_cost, extension_cost}
+use Rattle.change_model.specs.Visits.{Visits, no_usage, no_visits, before, and_then, opened, closed, most_usage, visits_below, changes_behind, is_untouched, merged_child, visit_alone, visits_at, where_touched, if_touched, merge_visits, merge_usage, branch_cost, extension_cost}
 use Rattle.change_model.proofs.Laid.{IsLaid, laid-below}
-use Rattle.change_model.proofs.Left.{Apart, apart-behind, has_rows, has_rows-found, found_of_rows, left_as}
-use Rattle.change_model.proofs.Merging.{IsMerged, merged_remains, remaining_merges}
+use Rattle.change_model.proofs.Left.{Apart, apart-behind, has_rows, has_rows-found, found_of_rows}
+use Rattle.change_model.proofs.Merging.{merged_remains, remaining_merges}
 use Rattle.change_model.proofs.Alone.{alone, touched, touched-root, touched-behind, touched-here, untouched-behind, untouched-here, shared_not_alone}
 
 -- ---- sums
@@ -93,6 +92,11 @@ sum_at_root f (row ∷ next ∷ others) none = go (common_prefix row (next ∷ o
     go (x ∷ prefix) e =
         let zeros = sum_by-none (λ q. f (x ∷ prefix ++ q)) (places (tree_of (below (x ∷ prefix) (row ∷ next ∷ others)))) (λ q. none (x ∷ (prefix ++ q)) (some x (prefix ++ q))) in
         ap (λ t. sum_by f (places t)) (tree_of-shares row next others x prefix e) ∙ sum_by-extension f (x ∷ prefix) (tree_of (below (x ∷ prefix) (row ∷ next ∷ others))) ∙ (omega arith)
+
+-- a test that all pass counts all
+pub count-all : {X : Type 0} (xs : List X) → count_by (λ (x : X). true) xs ≡ length xs
+count-all [] = refl
+count-all {X} (x ∷ xs) = let h = count-all xs in sum_by-cons (λ (x : X). 1) x xs ∙ (omega arith)
 
 -- ---- visits of which no test fails
 
@@ -427,9 +431,9 @@ module _ (test : List ℕ → Bool) where
         let bound : usage top ≤ most_usage = subst (λ t. usage t ≤ most_usage) t (fits-here fork_rows fits) in
         let root : counts_at fork_rows changes later [] ≡ one digest = counts-root fork_rows changes later some ∙ ap (λ t. one (sha256 (text t))) t in
         let total : one digest + (sum_below of_touched 16 + (merge_count merge + 0)) ≡ sum_by (counts_at fork_rows changes later) (places top) =
-            let u = untouched_sum merge refl in
-            let k = sum_below-agree whole (λ x. of_touched x + of_untouched x) 16 (λ x h. halves x) ∙ sum_below-plus of_touched of_untouched 16 in
-            sums (one digest) (sum_below of_touched 16) (sum_below of_untouched 16) (merge_count merge) (sum_below whole 16) (counts_at fork_rows changes later []) u k root ∙ sym (sum_by-branch (counts_at fork_rows changes later) (ends_here fork_rows) kid)
+        let u = untouched_sum merge refl in
+        let k = sum_below-agree whole (λ x. of_touched x + of_untouched x) 16 (λ x h. halves x) ∙ sum_below-plus of_touched of_untouched 16 in
+        sums (one digest) (sum_below of_touched 16) (sum_below of_untouched 16) (merge_count merge) (sum_below whole 16) (counts_at fork_rows changes later []) u k root ∙ sym (sum_by-branch (counts_at fork_rows changes later) (ends_here fork_rows) kid)
         in
         let parts = stated_sum merge refl in
         let own = branch_cost-is (ends_here fork_rows) in

@@ -1,6 +1,5 @@
 -- A batch that leaves the state as it was makes only texts of it.
-use Rattle.std.proofs.Common.{◌≡◌, ℕ, List, [], ◌∷◌, ◌++◌, map, Option, None, Some, Contains, refl, sym, ◌∙◌, ap, subst, ◌⊎◌, inl, inr}
-use Rattle.std.specs.List.{AllByRecursion, filter, filter_map, cons_option}
+use Rattle.std.proofs.Common.{◌≡◌, ℕ, List, ◌++◌, map, Some, Contains, sym, ◌∙◌, ap, subst, ◌⊎◌, inl, inr}
 use Rattle.std.specs.FinMap.{entries, get}
 use Rattle.byte_model.specs.Nibbles.{nibbles}
 use Rattle.trie_model.specs.State.{State, Row, rows_of}

@@ -1,7 +1,7 @@
 -- Over a table that has the texts of a state's touched places, a batch visits these places.
-use Rattle.std.proofs.Common.{◌≡◌, ◌≢◌, ℕ, zero, suc, ◌+◌, ◌<◌, ◌≤◌, ◌^◌, Bool, true, false, cond, not, List, [], ◌∷◌, ◌++◌, map, sum_by, Option, None, Some, option_map, Contains, refl, sym, ◌∙◌, ap, ap₂, subst, arith, inl, inr, append-nil}
+use Rattle.std.proofs.Common.{◌≡◌, ◌≢◌, ℕ, ◌+◌, ◌<◌, ◌≤◌, ◌^◌, Bool, true, false, cond, not, List, [], ◌∷◌, ◌++◌, map, sum_by, Some, option_map, refl, sym, ◌∙◌, ap, ap₂, subst, arith, append-nil}
 use Rattle.std.specs.Prelude.{⊤, ◌||◌, ◌&&◌, ◌==◌, length}
-use Rattle.std.specs.List.{AllByRecursion, filter, count_by}
+use Rattle.std.specs.List.{filter, count_by}
 use Rattle.std.proofs.lemmas.Bool.{false≢true}
 use Rattle.std.proofs.lemmas.List.Sums.{sum_by-cons}
 use Rattle.std.specs.FinMap.{get, entries}
@@ -13,12 +13,10 @@ use Rattle.trie_model.specs.Texts.{text, usage, value_ref, places}
 use Rattle.trie_model.specs.Root.{Table, root, root_of, text_at, subtree_at, places_of, zero_digest}
 use Rattle.trie_model.proofs.Members.{IsIn, all_at}
 use Rattle.trie_model.proofs.Children.{root_is_place, in_branch, in_extension}
-use Rattle.trie_model.proofs.Costs.{subtree_at-root}
 use Rattle.trie_model.proofs.Rests.{below-nil, below-append}
 use Rattle.trie_model.proofs.Trees.{tree_of-nil, tree_of-one, tree_of-forks, tree_of-shares, by_cases}
-use Rattle.trie_model.proofs.Pairs.{Small, small-below, small-rows_of}
+use Rattle.trie_model.proofs.Pairs.{Small, small-below}
 use Rattle.trie_model.proofs.Bounds.{usage-lt}
-use Rattle.visit_model.specs.Seen as seen
 use Rattle.visit_model.specs.Seen.{Seen, seen, seen_at}
 use Rattle.visit_model.specs.Shown.{shown}
 use Rattle.visit_model.proofs.ShownFits.{IsThere, FitsBelow, state_fits}
@@ -32,11 +30,11 @@ use Rattle.change_model.proofs.Filtered.{in_filter}
 use Rattle.change_model.proofs.Along.{visits_at-same}
 use Rattle.change_model.proofs.Seeing.{IsHeldText, HeldAlong, seen_along}
 use Rattle.change_model.proofs.Laid.{IsLaid, laid-below, laid-after}
-use Rattle.change_model.proofs.Left.{Apart, apart-behind, apart-change_rows, has_rows, has_rows-found, found_of_rows}
+use Rattle.change_model.proofs.Left.{Apart, apart-behind, apart-change_rows, has_rows}
 use Rattle.change_model.proofs.Touched.{small-after}
-use Rattle.change_model.proofs.Alone.{paths_of, alone, touched, touched-def, touched-root, touched-behind, touched-here, untouched-here, leads_to-here, none_alone}
-use Rattle.change_model.proofs.Merging.{IsMerged, merged_remains}
-use Rattle.change_model.proofs.Touching.{counts_at, counts_at-def, Passes, passes-none, passes_touched, one, rows_before, tree_there}
+use Rattle.change_model.proofs.Alone.{paths_of, alone, touched, touched-root, touched-behind, touched-here, untouched-here, none_alone}
+use Rattle.change_model.proofs.Merging.{merged_remains}
+use Rattle.change_model.proofs.Touching.{counts_at, counts_at-def, Passes, passes-none, passes_touched, one, rows_before}
 
 -- ---- the touched texts of some rows are held
 

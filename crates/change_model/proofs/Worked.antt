@@ -1,14 +1,14 @@
 -- Worked batches by computing: of a state and a batch that are given by their entries in order, all is told by these entries and those of the state afterwards.
-use Rattle.std.proofs.Common.{◌≡◌, ℕ, nat_eq, ◌==◌, ◌-◌, ◌&&◌, ◌||◌, not, Bool, true, false, cond, List, [], ◌∷◌, ◌++◌, map, length, T, Option, None, Some, is_some, is_none, nat_cmp, refl, sym, ◌∙◌, ap, ap₂, subst}
+use Rattle.std.proofs.Common.{◌≡◌, ℕ, nat_eq, ◌==◌, ◌-◌, ◌&&◌, ◌||◌, not, Bool, true, false, cond, List, [], ◌∷◌, ◌++◌, map, length, T, Option, None, Some, is_some, is_none, nat_cmp, refl, sym, ◌∙◌, ap, ap₂}
 use Rattle.std.specs.List.{filter, filter_map, list_any, count_by}
 use Rattle.std.specs.Cmp.Lexicographic.{slice_cmp, nat_list_cmp_total, pointwise}
-use Rattle.std.specs.FinMap.{FinMap, entries, entries_sorted, entries-from_sorted, from_sorted, get, get-entries, insert, remove, entries-insert, get-remove, put, find, is_sorted}
+use Rattle.std.specs.FinMap.{entries, entries_sorted, entries-from_sorted, from_sorted, get, get-entries, insert, remove, entries-insert, get-remove, put, find, is_sorted}
 use Rattle.std.specs.FinMap.Entries.{where_key, find-where_key, is_sorted-where_key, same_entries}
 use Rattle.std.specs.Cmp.{eq_by_cmp_equiv}
 use mathlib.Core.Path.{fun_ext}
 use Rattle.sha2.specs.Sha256.{sha256}
 use Rattle.byte_model.specs.Nibbles.{nibbles}
-use Rattle.trie_model.specs.State.{State, Row, rows_of}
+use Rattle.trie_model.specs.State.{State, rows_of}
 use Rattle.trie_model.specs.Tree.{Tree, below, tree_of}
 use Rattle.trie_model.specs.Texts.{text, places}
 use Rattle.trie_model.specs.Root.{subtree_at, text_at, texts_of}

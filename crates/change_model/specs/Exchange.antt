@@ -1,5 +1,5 @@
 -- The two sides of a batch, text by text: which texts of the old state it takes out and which of the new one it puts in. What is on neither side stands in both states.
-use Rattle.std.specs.Prelude.{ℕ, ◌&&◌, ◌||◌, not, nat_eq, Bool, List, ◌++◌, map, filter}
+use Rattle.std.specs.Prelude.{ℕ, ◌||◌, not, nat_eq, Bool, List, ◌++◌, map, filter}
 use Rattle.std.specs.List.{filter_map, count_by}
 use Rattle.std.specs.Cmp.Lexicographic.{pointwise}
 use Rattle.std.specs.FinMap.{get, entries}

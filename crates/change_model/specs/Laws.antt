@@ -1,6 +1,6 @@
 -- What the laws over the definitions speak of.
 use Rattle.std.specs.Prelude.{◌≡◌, ◌≢◌, ℕ, false, List, [], ◌++◌, map, Contains}
-use Rattle.trie_model.specs.State.{State, Row, rows_of}
+use Rattle.trie_model.specs.State.{State, rows_of}
 use Rattle.trie_model.specs.Tree.{below}
 use Rattle.trie_model.specs.Root.{subtree_at}
 use Rattle.change_model.specs.Changes.{Changes, after}

@@ -1,5 +1,5 @@
 -- Which places of a state a batch touches, and which places of the new state it writes. Nothing here knows of an update or of a stored node.
-use Rattle.std.specs.Prelude.{ℕ, ◌-◌, ◌==◌, ◌&&◌, ◌||◌, not, nat_eq, Bool, true, false, List, [], ◌∷◌, ◌++◌, length, take, map, filter}
+use Rattle.std.specs.Prelude.{ℕ, ◌-◌, ◌==◌, ◌&&◌, ◌||◌, not, nat_eq, Bool, true, false, List, ◌++◌, length, take, map, filter}
 use Rattle.std.specs.List.{list_any, list_all}
 use Rattle.std.specs.Cmp.Lexicographic.{pointwise}
 use Rattle.byte_model.specs.Nibbles.{nibbles}

@@ -1,8 +1,7 @@
 -- What a batch visits over any set of texts, in order, and the first test that fails. It is told by the tree of what can be seen, and each place by the changes below it, so that no test looks at a text that is not visited.
-use Rattle.std.specs.Prelude.{ℕ, zero, suc, ◌+◌, ◌^◌, ◌&&◌, ◌||◌, not, nat_lt, nat_eq, Bool, true, false, List, [], ◌∷◌, ◌++◌, length, map, Option, None, Some, is_some, is_none, if◌then◌else◌}
+use Rattle.std.specs.Prelude.{ℕ, zero, suc, ◌+◌, ◌^◌, ◌||◌, not, nat_lt, Bool, true, false, List, [], ◌∷◌, ◌++◌, length, Option, None, Some, is_some, is_none, if◌then◌else◌}
 use Rattle.std.specs.Option.{option_map}
 use Rattle.std.specs.List.{filter_map, list_any}
-use Rattle.std.specs.Cmp.Lexicographic.{pointwise}
 use Rattle.byte_model.specs.Below.{sum_below}
 use Rattle.byte_model.specs.PackedPath.{packed}
 use Rattle.byte_model.specs.Node.{ValueRef, cost_of}

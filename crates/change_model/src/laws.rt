@@ -1,8 +1,7 @@
 //! Laws over the definitions, in other words than theirs. A law is proved where its function is: there is nothing to run.
 
 ghost use Rattle.std.specs.Prelude.{◌≡◌, ◌≢◌, ◌+◌, ◌-◌, ℕ, Bool, true, false, List, [], ◌++◌, length, map, None, Contains};
-ghost use Rattle.std.specs.List.{AllByRecursion};
-ghost use Rattle.std.specs.List.Sorted.{IsPermutation};
+ghost use Rattle.std.specs.List.{AllByRecursion, count_by};
 ghost use Rattle.std.specs.FinMap.{get, entries};
 ghost use Rattle.sha2.specs.Sha256.{sha256};
 ghost use Rattle.trie_model.specs.State.{State, IsState, IsPair, rows_of};
@@ -72,8 +71,9 @@ pub fn nothing_new_without_change()
     ensures { (state : State) (changes : Changes) (t : List ℕ) → after state changes ≡ state → Contains (made_texts state changes) t → Contains (texts_of state) t }
 {}
 
-/// Over a table that has the texts of the touched places, a batch visits the touched places, each once, and no test fails.
+/// Over a table that has the texts of the touched places, a batch visits the touched places, each once, and no test fails. That each is visited once is said by counts: whatever test a digest may pass, as many of those visited do as of the touched places'.
 pub fn batch_over_state()
     ensures refusal { (table : Table) (state : State) (changes : Changes) → IsState state → AreChanges changes → HoldsPlaces table state (touched_places state [] changes) → (batch_visits table (root state) changes).refusal ≡ None }
-    ensures digests { (table : Table) (state : State) (changes : Changes) → IsState state → AreChanges changes → HoldsPlaces table state (touched_places state [] changes) → IsPermutation (map (λ place. sha256 (text_at state place)) (touched_places state [] changes)) (batch_visits table (root state) changes).digests }
+    ensures digests { (table : Table) (state : State) (changes : Changes) (test : List ℕ → Bool) → IsState state → AreChanges changes → HoldsPlaces table state (touched_places state [] changes) → count_by test (batch_visits table (root state) changes).digests ≡ count_by test (map (λ place. sha256 (text_at state place)) (touched_places state [] changes)) }
+    ensures count { (table : Table) (state : State) (changes : Changes) → IsState state → AreChanges changes → HoldsPlaces table state (touched_places state [] changes) → length (batch_visits table (root state) changes).digests ≡ length (touched_places state [] changes) }
 {}
