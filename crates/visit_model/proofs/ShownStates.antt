@@ -22,13 +22,13 @@ use Rattle.visit_model.proofs.ShownTrees.{top_text, tree_seen}
 -- ---- the root
 
 -- a digest that is not zero is looked up
-root_looked_up : (table : Table) (digest : List ℕ) → digest ≢ zero_digest → seen table digest ≡ seen_at table 0 false digest
+pub root_looked_up : (table : Table) (digest : List ℕ) → digest ≢ zero_digest → seen table digest ≡ seen_at table 0 false digest
 unfolding seen
 root_looked_up table digest nonzero =
     let test : pointwise nat_eq digest zero_digest ≡ false = false_from_ne_true (pointwise nat_eq digest zero_digest) (λ e. nonzero ((bytes_eq-Decides digest zero_digest).0 e)) in
     ap (λ b. if b then seen.nothing else seen_at table 0 false digest) test
 
-no_root : (table : Table) → seen table zero_digest ≡ seen.nothing
+pub no_root : (table : Table) → seen table zero_digest ≡ seen.nothing
 unfolding seen
 no_root table = refl
 

@@ -18,7 +18,7 @@ use Rattle.trie_model.specs.Root.{Table}
 use Rattle.trie_model.proofs.Members.{IsIn, in-joined_below}
 use Rattle.trie_model.proofs.Places.{gathered, tree_texts}
 use Rattle.visit_model.specs.Seen as seen
-use Rattle.visit_model.specs.Seen.{seen_child, seen_node, seen_record, seen_text, seen_at}
+use Rattle.visit_model.specs.Seen.{Seen, seen_child, seen_node, seen_record, seen_text, seen_at}
 use Rattle.visit_model.specs.Shown.{shown}
 use Rattle.visit_model.proofs.SeenBounds.{seen_at-seen_text, place_fits, branch_room, extension_room}
 use Rattle.visit_model.proofs.ShownFits.{IsThere, FitsBelow}
@@ -59,24 +59,28 @@ module _ (table : Table) where
   abbrev pub Sees : ℕ → Bool → Tree → Type 0
   Sees depth after_extension tree = seen_at table depth after_extension (sha256 (text tree)) ≡ shown tree
 
-  -- whatever the same node is seen as, by what is seen further down, is the tree
-  abbrev Shows : ℕ → Tree → Node → Type 0
-  Shows depth tree n = (m : Node) → SameNode m n → HasNibblesOnly m → seen_node (seen_at table) depth (sha256 (text tree)) m (usage tree) ≡ shown tree
+  -- what the top node of a tree is seen as, whichever of the same nodes was read
+  abbrev pub TopSees : ℕ → Tree → Node → Seen → Type 0
+  TopSees depth tree n target = (m : Node) → SameNode m n → HasNibblesOnly m → seen_node (seen_at table) depth (sha256 (text tree)) m (usage tree) ≡ target
 
-  record_seen : (depth : ℕ) (after_extension : Bool) (tree : Tree) (n : Node) (read : Result (Node × ℕ) RecordFault) → IsOkAnd read (λ r. SameNode r.0 n × (r.1 ≡ usage tree) × HasNibblesOnly r.0) → fits_at depth after_extension n ≡ true → Shows depth tree n → seen_record (seen_at table) depth after_extension (sha256 (text tree)) read ≡ shown tree
+  abbrev Shows : ℕ → Tree → Node → Type 0
+  Shows depth tree n = TopSees depth tree n (shown tree)
+
+  record_seen : (depth : ℕ) (after_extension : Bool) (tree : Tree) (n : Node) (target : Seen) (read : Result (Node × ℕ) RecordFault) → IsOkAnd read (λ r. SameNode r.0 n × (r.1 ≡ usage tree) × HasNibblesOnly r.0) → fits_at depth after_extension n ≡ true → TopSees depth tree n target → seen_record (seen_at table) depth after_extension (sha256 (text tree)) read ≡ target
   unfolding seen_record
-  record_seen depth after_extension tree n (Err e) is fits shows = absurd is
-  record_seen depth after_extension tree n (Ok r) is fits shows =
+  record_seen depth after_extension tree n target (Err e) is fits sees = absurd is
+  record_seen depth after_extension tree n target (Ok r) is fits sees =
       ap (λ b. if b then seen_node (seen_at table) depth (sha256 (text tree)) r.0 r.1 else seen.bad (sha256 (text tree))) (fits_at-same depth after_extension r.0 n is.0 ∙ fits)
       ∙ ap (seen_node (seen_at table) depth (sha256 (text tree)) r.0) is.1
-      ∙ shows r.0 is.0 is.2
+      ∙ sees r.0 is.0 is.2
 
-  text_seen : (depth : ℕ) (after_extension : Bool) (tree : Tree) (n : Node) → depth ≤ longest_path → get table (sha256 (text tree)) ≡ Some (text tree) → IsRecord n (usage tree) (text tree) → fits_at depth after_extension n ≡ true → Shows depth tree n → Sees depth after_extension tree
+  -- The text of a tree's top node is held: the top is seen, whatever is seen below it.
+  pub top_seen : (depth : ℕ) (after_extension : Bool) (tree : Tree) (n : Node) (target : Seen) → depth ≤ longest_path → get table (sha256 (text tree)) ≡ Some (text tree) → IsRecord n (usage tree) (text tree) → fits_at depth after_extension n ≡ true → TopSees depth tree n target → seen_at table depth after_extension (sha256 (text tree)) ≡ target
   unfolding seen_text
-  text_seen depth after_extension tree n room held is fits shows =
+  top_seen depth after_extension tree n target room held is fits sees =
       seen_at-seen_text table depth after_extension (sha256 (text tree)) room
       ∙ ap (seen_text (seen_at table) depth after_extension (sha256 (text tree))) held
-      ∙ record_seen depth after_extension tree n (record_in (text tree)) (record_in-only n (usage tree) (text tree) is) fits shows
+      ∙ record_seen depth after_extension tree n target (record_in (text tree)) (record_in-only n (usage tree) (text tree) is) fits sees
 
   -- ---- by what the tree is
 
@@ -137,14 +141,14 @@ module _ (table : Table) where
   unfolding node_of
   tree_seen nothing depth after_extension room fits held there = absurd there
   tree_seen (leaf path value) depth after_extension room fits held there =
-      text_seen depth after_extension (leaf path value) (node.leaf path (value_ref value)) room (top_held (leaf path value) tt held) fits.0 fits.1 (leaf_shows depth path value)
+      top_seen depth after_extension (leaf path value) (node.leaf path (value_ref value)) (shown (leaf path value)) room (top_held (leaf path value) tt held) fits.0 fits.1 (leaf_shows depth path value)
   tree_seen (branch value kids) depth after_extension room fits held there =
       let n : Node = node.branch (option_map value_ref value) (λ x. name_of (kids x) (text (kids x))) in
       let deeper = branch_room depth after_extension (option_map value_ref value) (λ x. name_of (kids x) (text (kids x))) (place_fits depth after_extension n fits.0.1) in
-      text_seen depth after_extension (branch value kids) n room (top_held (branch value kids) tt held) fits.0.0 fits.0.1
+      top_seen depth after_extension (branch value kids) n (shown (branch value kids)) room (top_held (branch value kids) tt held) fits.0.0 fits.0.1
       (branch_shows depth value kids (λ x small there. tree_seen (kids x) (depth + 1) false deeper (fits.1 x) (branch_child_held value kids x small held) there) fits.2)
   tree_seen (extension path child) depth after_extension room fits held there =
       let n : Node = node.extension path (sha256 (text child)) in
       let deeper = extension_room depth after_extension path (sha256 (text child)) (place_fits depth after_extension n fits.0.1) in
-      text_seen depth after_extension (extension path child) n room (top_held (extension path child) tt held) fits.0.0 fits.0.1
+      top_seen depth after_extension (extension path child) n (shown (extension path child)) room (top_held (extension path child) tt held) fits.0.0 fits.0.1
       (extension_shows depth path child (tree_seen child (depth + length path) true (omega arith) fits.1 (child_held path child held) fits.2))

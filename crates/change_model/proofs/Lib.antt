@@ -1,0 +1,16 @@
+pub mod Filtered
+pub mod Laying
+pub mod Forks
+pub mod Touched
+pub mod Cuts
+pub mod Balance
+pub mod Unchanged
+pub mod Along
+pub mod Seeing
+pub mod Laid
+pub mod Left
+pub mod Worked
+pub mod Alone
+pub mod Merging
+pub mod Touching
+pub mod Visited
