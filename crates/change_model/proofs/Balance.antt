@@ -23,7 +23,9 @@ use Rattle.change_model.specs.Changes.{Changes, Change, after, decided, changed_
 use Rattle.change_model.specs.Places.{leads_to, is_place_of, is_written, written_places}
 use Rattle.change_model.specs.Ledger.{set_values, made_texts, fresh, gone}
 use Rattle.change_model.specs.Exchange.{is_given_up, former_values, taken_texts}
-use Rattle.change_model.proofs.Laying.{ties, same_key, same_of_ties, first_test, second_test, both_tests, all_of_get, where_key-agree, get-after, below-after}
+use Rattle.visit_model.proofs.RisingRows.{both_so}
+use Rattle.trie_model.proofs.Order.{first_test, second_test}
+use Rattle.change_model.proofs.Laying.{ties, same_key, same_of_ties, all_of_get, where_key-agree, get-after, below-after}
 use Rattle.trie_model.proofs.Costs.{text_at-same}
 use Rattle.change_model.proofs.Filtered.{in_filter, in_filter_from, map-agree_in}
 use Rattle.change_model.proofs.Touched.{is_place, place_from_test}
@@ -47,7 +49,7 @@ module _ {X Y : Type 0} (g : List ℕ → Option X) where
     where
       go : (o : Option X) → T (below_all (slice_cmp nat_cmp) key (picked g es)) → T (below_all (slice_cmp nat_cmp) key (cons_option (option_map (λ v. (e.0, v)) o) (picked g es)))
       go None further = further
-      go (Some v) further = both_tests _ _ (first_test _ _ h) further
+      go (Some v) further = both_so _ _ (first_test _ _ h) further
 
   sorted-picked : (es : List (List ℕ × Y)) → T (is_sorted (slice_cmp nat_cmp) es) → T (is_sorted (slice_cmp nat_cmp) (picked g es))
   unfolding picked
@@ -56,7 +58,7 @@ module _ {X Y : Type 0} (g : List ℕ → Option X) where
     where
       go : (o : Option X) → T (is_sorted (slice_cmp nat_cmp) (picked g es)) → T (is_sorted (slice_cmp nat_cmp) (cons_option (option_map (λ v. (e.0, v)) o) (picked g es)))
       go None further = further
-      go (Some v) further = both_tests _ _ (below-picked e.0 es (first_test _ _ h)) further
+      go (Some v) further = both_so _ _ (below-picked e.0 es (first_test _ _ h)) further
 
   find-picked : (q : List ℕ) (es : List (List ℕ × Y)) → find (slice_cmp nat_cmp) q (picked g es) ≡ cond (is_some (find (slice_cmp nat_cmp) q es)) (g q) None
   unfolding picked

@@ -1,4 +1,6 @@
 -- Which paths are places, told by the rows below them: the root, each path at which rows fork, and each path one nibble behind such a path that has a row below it.
+use Rattle.byte_model.proofs.Lists.{first_same, rest_same}
+use Rattle.trie_model.specs.Grown.{grown}
 use Rattle.std.proofs.Common.{◌≡◌, ◌≢◌, ℕ, ◌<◌, ◌==◌, true, false, if◌then◌else◌, List, [], ◌∷◌, ◌++◌, Option, None, Some, refl, sym, ◌∙◌, ap, subst, ap₂, inl, inr, append_assoc, append-nil}
 use Rattle.std.specs.List.{cons_option}
 use Rattle.std.specs.Option.{option_map}
@@ -8,11 +10,11 @@ use Rattle.trie_model.specs.State.{Row}
 use Rattle.trie_model.specs.Tree.{Tree, nothing, leaf, branch, extension, rest_behind, below, ends_here, common_prefix, tree_of}
 use Rattle.trie_model.specs.Texts.{places}
 use Rattle.trie_model.proofs.Members.{IsIn}
-use Rattle.trie_model.proofs.Rests.{HasPrefix, AllHavePrefix, common_prefix-all, under, under-below, below-under, below-nil, below-append, prefix_and_rest, none_cons, first_same, rest_same, equal_of_test}
+use Rattle.trie_model.proofs.Rests.{HasPrefix, AllHavePrefix, common_prefix-all, under, under-below, below-under, below-nil, below-append, prefix_and_rest, none_cons, equal_of_test}
 use Rattle.trie_model.proofs.Trees.{tree_of-nil, tree_of-one, tree_of-forks, tree_of-shares, by_cases}
 use Rattle.trie_model.proofs.Children.{no_place, root_is_place, in_branch, in_branch_from, in_extension, in_extension_from}
 use Rattle.trie_model.proofs.Pairs.{Small, small-below}
-use Rattle.trie_model.proofs.Growth.{grown, tree_of-under, common_prefix-under, tree_of-prefix, below-under_other}
+use Rattle.trie_model.proofs.Growth.{tree_of-under, common_prefix-under, tree_of-prefix, below-under_other}
 use Rattle.change_model.specs.Places.{is_branch}
 
 -- ---- rows that fork

@@ -11,6 +11,7 @@ use Rattle.std.proofs.lemmas.Bool.{false≢true}
 use Rattle.byte_model.specs.Nibbles.{nibbles}
 use Rattle.trie_model.specs.State.{State, Row, rows_of, IsState, IsPair}
 use Rattle.trie_model.specs.Tree.{rest_behind, below}
+use Rattle.trie_model.proofs.Order.{first_test, second_test}
 use Rattle.trie_model.proofs.Worked.{Pair, rows_of_pairs}
 use Rattle.visit_model.specs.Bounds.{has_prefix}
 use Rattle.change_model.specs.Changes.{Changes, Change, after_change, after_each, after, decided, changed_paths, AreChanges, IsChange}
@@ -27,18 +28,6 @@ same_key = slice_cmp-IsAntisymmetric nat_cmp-IsAntisymmetric
 
 pub same_of_ties : (q key : List ℕ) → ties q key ≡ true → q ≡ key
 same_of_ties q key e = same_key q key ((Equal-is (slice_cmp nat_cmp q key)).0 e)
-
-pub first_test : (a b : Bool) → T (a && b) → T a
-first_test true b h = tt
-first_test false b h = h
-
-pub second_test : (a b : Bool) → T (a && b) → T b
-second_test true b h = h
-second_test false b h = absurd h
-
-pub both_tests : (a b : Bool) → T a → T b → T (a && b)
-both_tests true b h k = k
-both_tests false b h k = h
 
 tied_not_less : (o : Ordering) → is_eq o ≡ true → T (is_lt o) → ⊥
 tied_not_less Less e h = false≢true e

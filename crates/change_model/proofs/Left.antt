@@ -249,6 +249,20 @@ some_ref : (o : Option (List ℕ)) → is_some (option_map value_ref o) ≡ is_s
 some_ref None = refl
 some_ref (Some v) = refl
 
+-- a branch has a value after the changes exactly where the later rows have one
+pub value_left : (rows : List Row) (changes : List Change) (later : List Row) → IsLaid rows changes later → has_value_after (option_map value_ref (ends_here rows)) changes ≡ is_some (found_at [] later)
+value_left rows changes later laid = go (found_at [] changes) refl ∙ ap is_some (sym value_is)
+  where
+    ref : Option ValueRef
+    ref = option_map value_ref (ends_here rows)
+
+    value_is : found_at [] later ≡ decided (found_at [] changes) (ends_here rows)
+    value_is = laid.at [] ∙ ap (decided (found_at [] changes)) (sym (ends_here-found_at rows))
+
+    go : (o : Option (Option (List ℕ))) → found_at [] changes ≡ o → is_some_after ref (found_at [] changes) ≡ is_some (decided (found_at [] changes) (ends_here rows))
+    go None is = ap (is_some_after ref) is ∙ some_ref (ends_here rows) ∙ ap (λ (o : Option (Option (List ℕ))). is_some (decided o (ends_here rows))) (sym is)
+    go (Some value) is = ap (is_some_after ref) is ∙ ap (λ (o : Option (Option (List ℕ))). is_some (decided o (ends_here rows))) (sym is)
+
 or_assoc : (a b c d : Bool) → (((a || b) || c) || d) ≡ ((a || b) || (c || d))
 or_assoc true b c d = refl
 or_assoc false true c d = refl
@@ -273,28 +287,18 @@ left_forks row next others e further changes later apart laid small =
     left_is : (x : ℕ) → left x ≡ has_rows (below (x ∷ []) later)
     left_is x = further x (changes_behind (x ∷ []) changes) (below (x ∷ []) later) (apart-behind (x ∷ []) changes apart) (laid-below (x ∷ []) rows changes later laid) (small-below (x ∷ []) later small)
 
-    value_is : found_at [] later ≡ decided (found_at [] changes) (ends_here rows)
-    value_is = laid.at [] ∙ ap (decided (found_at [] changes)) (sym (ends_here-found_at rows))
-
-    value_left : has_value_after ref changes ≡ is_some (found_at [] later)
-    value_left = go (found_at [] changes) refl ∙ ap is_some (sym value_is)
-      where
-        go : (o : Option (Option (List ℕ))) → found_at [] changes ≡ o → is_some_after ref (found_at [] changes) ≡ is_some (decided (found_at [] changes) (ends_here rows))
-        go None is = ap (is_some_after ref) is ∙ some_ref (ends_here rows) ∙ ap (λ (o : Option (Option (List ℕ))). is_some (decided o (ends_here rows))) (sym is)
-        go (Some value) is = ap (is_some_after ref) is ∙ ap (λ (o : Option (Option (List ℕ))). is_some (decided o (ends_here rows))) (sym is)
-
     some_found : (o : Option (List ℕ)) → found_at [] later ≡ o → is_some o ≡ true → has_rows later ≡ true
     some_found None is k = cc
     some_found (Some v) is k = has_rows-found later [] v is
 
     from : (has_value_after ref changes || any_below left 16) ≡ true → has_rows later ≡ true
     from k = elim (or_cases (has_value_after ref changes) (any_below left 16) k) [
-      | inl value ↦ some_found (found_at [] later) refl (sym value_left ∙ value)
+      | inl value ↦ some_found (found_at [] later) refl (sym (value_left rows changes later laid) ∙ value)
       | inr any ↦ let r = any_below_from left 16 any in has_rows-below (r.0 ∷ []) later (sym (left_is r.0) ∙ r.2)
     ]
 
     to : (q v : List ℕ) → found_at q changes ≡ None → found_at q rows ≡ Some v → found_at q later ≡ Some v → (has_value_after ref changes || any_below left 16) ≡ true
-    to [] v none found still = or_left (has_value_after ref changes) (any_below left 16) (value_left ∙ ap is_some still)
+    to [] v none found still = or_left (has_value_after ref changes) (any_below left 16) (value_left rows changes later laid ∙ ap is_some still)
     to (x ∷ q) v none found still =
         let tiny = small_found later x q v small still in
         let there = has_rows-found (below (x ∷ []) later) q v (found_at-below (x ∷ []) q later ∙ still) in

@@ -1,4 +1,5 @@
 -- Which child a branch is merged with: the one place below it that remains alone.
+use Rattle.byte_model.proofs.Lists.{first_same}
 use Rattle.std.proofs.Common.{◌≡◌, ◌≢◌, ℕ, zero, suc, ◌<◌, Bool, true, false, if◌then◌else◌, not, List, [], ◌∷◌, ◌++◌, Option, None, Some, is_some, option_map, inl, inr, refl, sym, ◌∙◌, ap, ap₂, subst, arith}
 use Rattle.std.proofs.lemmas.Bool.{false≢true, cases_lt, true_from_ne_false, false_from_ne_true}
 use Rattle.byte_model.specs.Node.{ValueRef}
@@ -6,7 +7,7 @@ use Rattle.trie_model.specs.State.{Row}
 use Rattle.trie_model.specs.Tree.{below, ends_here, common_prefix, tree_of}
 use Rattle.trie_model.specs.Texts.{value_ref}
 use Rattle.trie_model.proofs.Members.{IsIn, in-append_left, in-append_right, in-append_cases}
-use Rattle.trie_model.proofs.Rests.{AllHavePrefix, HasPrefix, below-nil, first_same}
+use Rattle.trie_model.proofs.Rests.{AllHavePrefix, HasPrefix, below-nil}
 use Rattle.trie_model.proofs.Trees.{tree_of-forks}
 use Rattle.trie_model.proofs.Pairs.{Small, small-below}
 use Rattle.visit_model.specs.Seen.{Seen}
@@ -16,7 +17,7 @@ use Rattle.change_model.specs.Places.{is_branch}
 use Rattle.change_model.specs.Visits.{changes_behind, is_untouched, is_some_after, has_value_after, is_left, numbers_below, lone_child, merged_child}
 use Rattle.change_model.proofs.Forks.{Fork}
 use Rattle.change_model.proofs.Laid.{IsLaid, laid-below, found_at-below, found_at-changes_behind}
-use Rattle.change_model.proofs.Left.{Apart, apart-behind, has_rows, has_rows-found, found_of_rows, small_found, ends_here-found_at, left_as}
+use Rattle.change_model.proofs.Left.{Apart, apart-behind, has_rows, has_rows-found, found_of_rows, small_found, value_left, left_as}
 use Rattle.change_model.proofs.Alone.{leads_to-here, Alone, alone, alone_from, alone_to, found_all, all_found}
 
 -- ---- the numbers at which a test holds
@@ -93,10 +94,6 @@ lone_to value left changes x h =
 
 -- ---- of rows that fork
 
-some_ref : (o : Option (List ℕ)) → is_some (option_map value_ref o) ≡ is_some o
-some_ref None = refl
-some_ref (Some v) = refl
-
 module _ (row next : Row) (others : List Row) (e : common_prefix row (next ∷ others) ≡ []) (changes : List Change) (later : List Row) (apart : Apart changes) (laid : IsLaid (row ∷ next ∷ others) changes later) (small : Small later) where
   abbrev rows : List Row
   rows = row ∷ next ∷ others
@@ -115,16 +112,6 @@ module _ (row next : Row) (others : List Row) (e : common_prefix row (next ∷ o
 
   left_is : (x : ℕ) → left x ≡ has_rows (below (x ∷ []) later)
   left_is x = left_as (below (x ∷ []) rows) (changes_behind (x ∷ []) changes) (below (x ∷ []) later) (apart-behind (x ∷ []) changes apart) (laid-below (x ∷ []) rows changes later laid) (small-below (x ∷ []) later small)
-
-  value_left : has_value_after ref changes ≡ is_some (found_at [] later)
-  value_left = go (found_at [] changes) refl ∙ ap is_some (sym value_is)
-    where
-      value_is : found_at [] later ≡ decided (found_at [] changes) (ends_here rows)
-      value_is = laid.at [] ∙ ap (decided (found_at [] changes)) (sym (ends_here-found_at rows))
-
-      go : (o : Option (Option (List ℕ))) → found_at [] changes ≡ o → is_some_after ref (found_at [] changes) ≡ is_some (decided (found_at [] changes) (ends_here rows))
-      go None is = ap (is_some_after ref) is ∙ some_ref (ends_here rows) ∙ ap (λ (o : Option (Option (List ℕ))). is_some (decided o (ends_here rows))) (sym is)
-      go (Some value) is = ap (is_some_after ref) is ∙ ap (λ (o : Option (Option (List ℕ))). is_some (decided o (ends_here rows))) (sym is)
 
   fork : Fork (below [] rows)
   unfolding is_branch
@@ -152,7 +139,7 @@ module _ (row next : Row) (others : List Row) (e : common_prefix row (next ∷ o
       }
     where
       behind_it : IsLone (has_value_after ref changes) (numbers_below left 16) changes x → (q v : List ℕ) → found_at q later ≡ Some v → HasPrefix (x ∷ []) q
-      behind_it lone [] v found = absurd (false≢true (sym lone.no_value ∙ value_left ∙ ap is_some found))
+      behind_it lone [] v found = absurd (false≢true (sym lone.no_value ∙ value_left rows changes later laid ∙ ap is_some found))
       behind_it lone (y ∷ q) v found =
           let tiny = small_found later y q v small found in
           let there = left_is y ∙ has_rows-found (below (y ∷ []) later) q v (found_at-below (y ∷ []) q later ∙ found) in
@@ -167,7 +154,7 @@ module _ (row next : Row) (others : List Row) (e : common_prefix row (next ∷ o
   unfolding found_at
   remaining_merges x some remains =
       lone_to (has_value_after ref changes) (numbers_below left 16) changes x (record {
-        no_value = value_left ∙ no_value;
+        no_value = value_left rows changes later laid ∙ no_value;
         only = only_number left 16 x nibble (left_is x ∙ has_rows-found (below (x ∷ []) later) there.0 there.1 (found_at-below (x ∷ []) there.0 later ∙ still)) others_gone;
         untouched = none;
       })

@@ -15,7 +15,7 @@ use Rattle.std.specs.FinMap.{entries}
 use Rattle.trie_model.proofs.Worked.{Pair, rows_of_pairs}
 use Rattle.trie_model.proofs.Members.{IsIn, contains_of_in, in_of_contains}
 use Rattle.trie_model.proofs.Rests.{HasPrefix, AllHavePrefix, below-nil, below-append, rest_behind-append, rest_behind-prefix, prefix_and_rest}
-use Rattle.trie_model.proofs.Pairs.{Small}
+use Rattle.trie_model.proofs.Pairs.{Small, small_pairs}
 use Rattle.trie_model.proofs.Costs.{subtree_at-root, text_at-same}
 use Rattle.visit_model.specs.Bounds.{has_prefix}
 use Rattle.change_model.specs.Changes.{Changes, after, changed_paths, AreChanges}
@@ -25,10 +25,6 @@ use Rattle.change_model.proofs.Laying.{below-after, pairs-after}
 use Rattle.change_model.proofs.Forks.{Fork, Stands, at_root, at_fork, behind_fork, stands, places_stand, fork_unless_alone, fork-prefix}
 
 -- ---- the state afterwards
-
-small_pairs : (pairs : List Pair) → AllByRecursion IsPair pairs → Small (rows_of_pairs pairs)
-small_pairs [] h = tt
-small_pairs (pair ∷ pairs) h = (AreNibbles-nibbles pair.0 h.0.key, small_pairs pairs h.1)
 
 pub small-after : (state : State) (changes : Changes) → IsState state → AreChanges changes → Small (rows_of (after state changes))
 unfolding rows_of

@@ -233,7 +233,7 @@ held-tree_of = by_cases (λ rows. RisingRows rows → Small rows → held (tree_
 
 -- ---- of a state
 
-small_pairs : (pairs : List Pair) → AllByRecursion IsPair pairs → Small (rows_of_pairs pairs)
+pub small_pairs : (pairs : List Pair) → AllByRecursion IsPair pairs → Small (rows_of_pairs pairs)
 small_pairs [] h = tt
 small_pairs (pair ∷ pairs) h = (AreNibbles-nibbles pair.0 h.0.key, small_pairs pairs h.1)
 

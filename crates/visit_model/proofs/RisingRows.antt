@@ -72,7 +72,7 @@ are_pairs bound (row ∷ rows) h = (is_pair bound row h.0, are_pairs bound rows 
 
 -- ---- rising rows are those of a state
 
-both_so : (a b : Bool) → T a → T b → T (a && b)
+pub both_so : (a b : Bool) → T a → T b → T (a && b)
 both_so true b h k = k
 both_so false b h k = absurd h
 
