@@ -1,5 +1,5 @@
 -- The event of a line, as its words are cut off one after another.
-use Rattle.std.proofs.Common.{◌≡◌, ◌≢◌, ℕ, Bool, true, false, cond, eqb, leb, List, [], ◌∷◌, length, Option, is_some, Some, None, Result, Ok, Err, IfOk, refl, sym, ap, ◌∙◌, subst}
+use Rattle.std.proofs.Common.{◌≡◌, ◌≢◌, ℕ, Bool, true, false, cond, eqb, List, [], ◌∷◌, length, Option, is_some, Some, None, Result, Ok, Err, IfOk, refl, sym, ap, ◌∙◌, subst}
 use Rattle.std.specs.Prelude.{codes, slice_get, IsSome, if◌then◌else◌}
 use Rattle.std.specs.List.{slice_split, join_with_byte, list_any}
 use Rattle.std.specs.Result.{result_ok}
@@ -13,7 +13,8 @@ use Rattle.hex.specs.declared.error.FromHexError.{FromHexError}
 use Rattle.hex.proofs.HexLemmas.{decode_of-ok}
 use Rattle.byte_model.specs.Node.{longest_value}
 use Rattle.script_model.specs.Lines.{Event, nothing, set, set_pair, event_of, event_of_words, is_space, is_carriage_return}
-use Rattle.script_model.specs.Spellings.{hex_bytes, at_most, key_of, value_of, no_bytes}
+use Rattle.script_model.specs.Spellings.{hex_bytes, key_of, value_of, no_bytes}
+use Rattle.script_model.proofs.SetLines.{at_most-within}
 use Rattle.script_io.specs.declared.event.Event.{Event as Asked}
 use Rattle.script_io.specs.declared.event.Event.TheVariants.{Nothing}
 use Rattle.script_io.specs.declared.event.EventError.{EventError}
@@ -65,17 +66,9 @@ one_word : (text bytes : List ℕ) → hex_bytes text ≡ Some bytes → slice_s
 unfolding hex_bytes
 one_word text bytes e = one_word_by (bytes_eq text no_bytes) text bytes refl e
 
-within : (most : ℕ) (o : Option (List ℕ)) (bytes : List ℕ) → at_most most o ≡ Some bytes → o ≡ Some bytes
-within most None bytes e = absurd cc
-within most (Some found) bytes e = chosen (leb (length found) most) e
-  where
-    chosen : (b : Bool) → cond b (Some found) None ≡ Some bytes → Some found ≡ Some bytes
-    chosen true h = h
-    chosen false h = absurd cc
-
 value_alone : (text value : List ℕ) → value_of text ≡ Some value → slice_split is_space text ≡ text ∷ []
 unfolding value_of
-value_alone text value e = one_word text value (within longest_value (hex_bytes text) value e)
+value_alone text value e = one_word text value (at_most-within longest_value (hex_bytes text) value e).0
 
 -- ---- the event of a line whose words were cut off so
 

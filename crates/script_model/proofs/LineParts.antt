@@ -19,9 +19,9 @@ parted_by : (bytes : List ℕ) → (feed_index bytes < length bytes) ⊎ (length
 parted_by bytes (inl lt) =
     let feed : get_or bytes (feed_index bytes) 0 ≡ line_feed = eqb-true (get_or bytes (feed_index bytes) 0) line_feed (passes_at_first is_line_feed bytes 0 lt) in
     rw (lt-ltb (feed_index bytes) (length bytes) lt) (
-      append_assoc (take (feed_index bytes) bytes) (line_feed ∷ []) (drop (feed_index bytes + 1) bytes)
-      ∙ ap (λ (rest : List ℕ). take (feed_index bytes) bytes ++ rest) (ap (λ (k : ℕ). k ∷ drop (feed_index bytes + 1) bytes) (sym feed) ∙ sym (drop_more bytes (feed_index bytes) 0 lt))
-      ∙ take-append-drop (feed_index bytes) bytes
+    append_assoc (take (feed_index bytes) bytes) (line_feed ∷ []) (drop (feed_index bytes + 1) bytes)
+    ∙ ap (λ (rest : List ℕ). take (feed_index bytes) bytes ++ rest) (ap (λ (k : ℕ). k ∷ drop (feed_index bytes + 1) bytes) (sym feed) ∙ sym (drop_more bytes (feed_index bytes) 0 lt))
+    ∙ take-append-drop (feed_index bytes) bytes
     )
 parted_by bytes (inr le) =
     rw (le-ltb (feed_index bytes) (length bytes) le, take_all (feed_index bytes) bytes le, drop_all (feed_index bytes + 1) bytes (omega arith)) (append-nil (bytes ++ []) ∙ append-nil bytes)

@@ -12,6 +12,7 @@ use text_store::Texts;
 use trie_shape::fitting_node;
 
 /// Loads the text under a digest.
+#[inline(always)]
 pub(crate) fn load_text<'s, T: Texts>(
     store: &'s mut T,
     digest: &Digest,

@@ -4,11 +4,8 @@ ghost use Rattle.record_model.specs.Fits.{fits_at};
 ghost use Rattle.node_codec.specs.Views.{node_viewed};
 ghost use Rattle.trie_shape.specs.Fitting.{fitting_node};
 
-use base_core::LONGEST_KEY;
+use nibble_keys::LONGEST_PATH;
 use node_codec::{NodeView, read_node};
-
-/// The nibbles of the longest key, two for each byte.
-const LONGEST_PATH: u64 = 2 * LONGEST_KEY;
 
 /// Whether a node may stand below so many nibbles, as the child of an extension or not. It takes no
 /// memory.
