@@ -2,15 +2,11 @@
 
 -- what is told of a store
 pub mod Store
-
 -- what a load says and leaves
 pub mod Loading
-
 -- what a call with several visits leaves
 pub mod Leaves
-
 -- texts with counts
 pub mod Counting
-
 -- a store in memory
 pub mod StoreStates
