@@ -5,11 +5,11 @@ pub mod Touched
 pub mod Cuts
 pub mod Balance
 pub mod Unchanged
+pub mod Worked
 pub mod Along
 pub mod Seeing
 pub mod Laid
 pub mod Left
-pub mod Worked
 pub mod Alone
 pub mod Merging
 pub mod Touching
