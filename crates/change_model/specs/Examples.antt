@@ -1,5 +1,5 @@
 -- Worked batches over the states of trie_model, whose digests and sizes were computed outside of this project.
-use Rattle.std.specs.Prelude.{[], ◌∷◌, None}
+use Rattle.std.specs.Prelude.{[], ◌∷◌, None, Some}
 use Rattle.std.specs.FinMap.{from_sorted}
 use Rattle.trie_model.specs.State.{State}
 use Rattle.change_model.specs.Changes.{Changes}
