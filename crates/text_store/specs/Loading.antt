@@ -18,7 +18,7 @@ pub record IsNamed (texts : Table) : Type 0 where
   pub own : (digest text : List ℕ) → get texts digest ≡ Some text → sha256 text ≡ digest
   pub nonzero : get texts zero_digest ≡ None
 
--- The digests kept as loaded: a load that answers a text adds its digest, and may stop telling them. Any other leaves them.
+-- What becomes of the digests kept as loaded. Where a text was answered, and they are told then, they are those of before with one more. Where none was, nothing has changed.
 abbrev pub Keeps : {A E : Type 0} → Option Digests → Option Digests → List ℕ → Result (Option A) E → Type 0
 Keeps before after digest (Ok (Some text)) = IfSome after (λ now. IsSomeAnd before (λ were. now ≡ insert were digest))
 Keeps before after digest (Ok None) = after ≡ before

@@ -47,8 +47,8 @@ impl Model for MemNodes {
 }
 
 impl MemNodes {
-    /// A store without texts. Its calls of `load`, `reserve`, `add` and `release` are numbered from
-    /// 1, and those whose numbers are in `fails` answer a fault.
+    /// A store without texts that fails at chosen calls. The first call of `load`, `reserve`, `add`
+    /// or `release` is number 1, whichever it is, and `fails` has the numbers of those that fail.
     pub fn new(alloc: Global, fails: &[u64]) -> Result<MemNodes, AllocError>
         ensures texts { IfOk result (λ store. store.texts ≡ empty) }
         ensures counts { IfOk result (λ store. store.counts ≡ empty) }
