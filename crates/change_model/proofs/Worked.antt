@@ -13,7 +13,10 @@ use Rattle.trie_model.specs.Tree.{Tree, below, tree_of}
 use Rattle.trie_model.specs.Texts.{text, places}
 use Rattle.trie_model.specs.Root.{subtree_at, text_at, texts_of}
 use Rattle.trie_model.proofs.Worked.{Pair, rows_of_pairs, everything}
-use Rattle.change_model.specs.Changes.{Changes, Change, after_change, after_each, after}
+use Rattle.visit_model.specs.Seen.{stated_usage}
+use Rattle.visit_model.specs.Shown.{shown}
+use Rattle.change_model.specs.Changes.{Changes, Change, after_change, after_each, after, change_rows, found_at}
+use Rattle.change_model.specs.Visits.{and_then, opened, closed, visits_below, changes_behind, any_below, is_left, numbers_below, visit_alone, visits_at}
 use Rattle.change_model.specs.Places.{above, is_branch, all_stand_below, leads_to, is_touched, remains_alone, touched_places, is_written, written_places}
 use Rattle.change_model.specs.Ledger.{made_texts, gain, loss, fresh, gone}
 use Rattle.change_model.specs.Exchange.{is_given_up, taken_texts}
@@ -154,3 +157,17 @@ module _ (state : State) (changes : Changes) where
 
   pub gone-told : gone state changes ≡ gone_of (entries state) (entries (after state changes)) (entries changes)
   gone-told = ap (λ (g : List ℕ → Option (List ℕ)). count_by (λ (change : Change). is_none change.1 && is_some (g change.0)) (entries changes)) got
+
+-- ---- visits
+
+-- what a proof of visits by computing opens
+unfoldable pub all_of_visits : ℕ
+unfolding all_of_batches shown and_then opened closed visits_below changes_behind found_at any_below is_left numbers_below visit_alone visits_at stated_usage
+all_of_visits = 0
+
+abbrev pub visited_of : List Pair → List Pair → List Change → List (List ℕ)
+visited_of pairs later changes = (visits_at (shown (subtree_of pairs [])) (map (λ change. (nibbles change.0, change.1)) changes)).digests
+
+pub visited-told : (state : State) (changes : Changes) → (visits_at (shown (subtree_at state [])) (change_rows changes)).digests ≡ visited_of (entries state) (entries (after state changes)) (entries changes)
+unfolding subtree_at rows_of
+visited-told state changes = refl

@@ -4,13 +4,16 @@ ghost use Rattle.std.specs.Prelude.{◌≡◌, [], ◌∷◌, length, map, codes
 ghost use Rattle.hex.specs.Hex.{encode_lower};
 ghost use Rattle.sha2.specs.Sha256.{sha256};
 ghost use Rattle.trie_model.specs.Examples.{two_keys_state};
-ghost use Rattle.trie_model.specs.Root.{text_at};
+ghost use Rattle.trie_model.specs.Root.{subtree_at, text_at};
+ghost use Rattle.visit_model.specs.Shown.{shown};
+ghost use Rattle.change_model.specs.Changes.{change_rows};
+ghost use Rattle.change_model.specs.Visits.{visits_at};
 ghost use Rattle.change_model.specs.Places.{touched_places, written_places};
 ghost use Rattle.change_model.specs.Ledger.{fresh, gain, gone, loss, made_texts};
 ghost use Rattle.change_model.specs.Exchange.{taken_texts};
 ghost use Rattle.change_model.specs.Examples.{delete_b, one_key_state, same_values_state, set_b};
 
-/// Of the keys 61 and 62 the second is deleted. The leaf of the first stays alone: its path joins that of the extension, and one leaf is made.
+/// Of the keys 61 and 62 the second is deleted. The leaf of the first stays alone: its path joins that of the extension, and one leaf is made. That leaf is visited last.
 pub fn one_of_two_deleted()
     ensures touched { touched_places two_keys_state [] delete_b ≡ [] ∷ (6 ∷ []) ∷ (6 ∷ 1 ∷ []) ∷ (6 ∷ 2 ∷ []) ∷ [] }
     ensures sizes { map (λ place. length (text_at two_keys_state place)) (touched_places two_keys_state [] delete_b) ≡ 46 ∷ 75 ∷ 50 ∷ 50 ∷ [] }
@@ -29,6 +32,12 @@ pub fn one_of_two_deleted()
     ensures lost { map (λ t. loss two_keys_state delete_b (sha256 t)) (taken_texts two_keys_state delete_b) ≡ 1 ∷ 1 ∷ 1 ∷ 1 ∷ 1 ∷ [] }
     ensures fresh { fresh two_keys_state delete_b ≡ 0 }
     ensures gone { gone two_keys_state delete_b ≡ 1 }
+    ensures visited { map encode_lower (visits_at (shown (subtree_at two_keys_state [])) (change_rows delete_b)).digests ≡
+        codes "06481f83918f99a3be485a586d16b56c10a9d578353d60e887baa5f9c389262e" ∷
+        codes "4bfc93a2a8a1dc2a26a673dd18f202d186ddd556fd274551f2768c63eae8b3d3" ∷
+        codes "9388c9352af4897c794d825e2357e48f8b6fae568882e518464b9eed2d698d5f" ∷
+        codes "fe06fdd02ac135f8869cb25908b95a465cafe090595f00d942f9df2ddc1042e4" ∷
+        [] }
 {}
 
 /// The same where both keys have one value: their leaves have one text, which is taken out twice, and one of the two values stays.

@@ -1,6 +1,6 @@
 use Rattle.std.proofs.Common.{map, refl, ◌∙◌, ap}
 use Rattle.hex.specs.Hex.{encode_lower}
-use Rattle.change_model.proofs.Worked.{all_of_batches, worked, touched_of, touched-told, sizes_of, sizes-told, written_of, written-told, made_of, made-told, gains_of, gains-told, taken_of, taken-told, losses_of, losses-told, fresh_of, fresh-told, gone_of, gone-told}
+use Rattle.change_model.proofs.Worked.{all_of_batches, all_of_visits, visited_of, visited-told, worked, touched_of, touched-told, sizes_of, sizes-told, written_of, written-told, made_of, made-told, gains_of, gains-told, taken_of, taken-told, losses_of, losses-told, fresh_of, fresh-told, gone_of, gone-told}
 use Rattle.change_model.proofs.examples.one_of_two_deleted.Goals as goal
 
 pub returns-clause-touched : goal.returns-clause-touched
@@ -38,3 +38,7 @@ returns-clause-fresh c = fresh-told _ _ ∙ worked fresh_of _ _ _ tt tt refl
 pub returns-clause-gone : goal.returns-clause-gone
 unfolding all_of_batches
 returns-clause-gone c = gone-told _ _ ∙ worked gone_of _ _ _ tt tt refl
+
+pub returns-clause-visited : goal.returns-clause-visited
+unfolding all_of_visits
+returns-clause-visited c = ap (map encode_lower) (visited-told _ _) ∙ worked (λ pairs later changes. map encode_lower (visited_of pairs later changes)) _ _ _ tt tt refl
