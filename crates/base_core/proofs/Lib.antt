@@ -1,3 +1,4 @@
 pub mod ByteMaps
 pub mod Faults
-pub mod PairMaps
+pub mod KeptMaps
+pub mod ChangeMaps

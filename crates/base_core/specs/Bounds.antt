@@ -1,5 +1,6 @@
 -- The numbers that no run goes beyond, and what limits a call may be given.
 use Rattle.std.specs.Prelude.{ℕ, ◌≤◌}
+pub use Rattle.batch_model.specs.Changes.{most_changes}
 use Rattle.base_core.specs.declared.limits.Limits.{Limits}
 
 -- the most pairs that a state may be asked to have
@@ -9,10 +10,6 @@ most_pairs = 4194304
 -- the most live blocks, the head among them
 abbrev pub most_blocks : ℕ
 most_blocks = 4096
-
--- the most distinct keys that a block may change
-abbrev pub most_changes : ℕ
-most_changes = 1048576
 
 pub record AreLimits (limits : Limits) : Type 0 where
   pub some_pairs : 1 ≤ limits.pairs

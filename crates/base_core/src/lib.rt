@@ -1,8 +1,9 @@
-//! What every crate of the store speaks of: digests, texts, the limits, what an outside object
+//! What every crate of the store speaks of: digests, texts, pairs, changes, the limits, what an outside object
 //! answers where it fails, and the reader and writer of Borsh records.
 #![tactic(auto)]
 
 mod borsh_error;
+mod changes;
 mod failures;
 mod fault;
 mod hash;
@@ -12,10 +13,12 @@ mod limits;
 mod pairs;
 mod put_error;
 mod reader;
+mod refusal;
 mod text;
 mod writer;
 
 pub use borsh_error::BorshError;
+pub use changes::Changes;
 pub use failures::Failures;
 pub use fault::Fault;
 pub use hash::{DIGEST_BYTES, Digest};

@@ -2,15 +2,15 @@ ghost use Rattle.std.specs.Prelude.{◌≡◌, ◌≤◌, ◌<◌, map, length, 
 ghost use Rattle.std.specs.Option.{option_copied};
 ghost use Rattle.std.specs.List.{slice_get};
 ghost use Rattle.std.specs.FinMap.{entries, get, empty};
-ghost use Rattle.byte_model.specs.Nibbles.{AreBytes};
 ghost use Rattle.byte_model.specs.Node.{longest_value};
 ghost use Rattle.trie_model.specs.State.{longest_key};
 ghost use Rattle.base_core.specs.declared.put_error.PutError.TheVariants.{NoMemory};
 ghost use Rattle.base_core.specs.Bounds.{most_pairs};
-ghost use Rattle.base_core.specs.PairMaps.{IsPairMap, laid, refusal, shown_entries};
+ghost use Rattle.base_core.specs.KeptMaps.{shown_entries};
+ghost use Rattle.base_core.specs.PairMaps.{IsPairMap, laid, refusal};
 
-use crate::limits::{LONGEST_KEY, LONGEST_VALUE};
 use crate::put_error::PutError;
+use crate::refusal::refusal;
 use crate::text::Text;
 use std::alloc::{AllocError, Global};
 use std::collections::BTreeMap;
@@ -25,15 +25,18 @@ pub struct Pairs {
 }
 
 impl Model for Pairs {
-    ghost use Rattle.base_core.specs.PairMaps.{PairMap, pair_map_code, pair_map_of, IsKeptSorted};
+    ghost use Rattle.trie_model.specs.State.{IsPair};
+    ghost use Rattle.base_core.specs.Bounds.{most_pairs};
+    ghost use Rattle.base_core.specs.KeptMaps.{IsKeptSorted, shown_map};
+    ghost use Rattle.base_core.specs.PairMaps.{PairMap, pair_map_code};
 
     ghost Value = { PairMap };
 
     ghost coded = { pair_map_code };
 
-    ghost view = { λ p. pair_map_of p.pairs.entries p.most };
+    ghost view = { λ p. record { state = shown_map p.pairs.entries; most = p.most } };
 
-    ghost invariant = { λ p. IsKeptSorted p.pairs.entries p.most };
+    ghost invariant = { λ p. IsKeptSorted IsPair most_pairs p.pairs.entries p.most };
 }
 
 impl Pairs {
@@ -57,31 +60,12 @@ impl Pairs {
         ensures ok { OnOk result (self.new ≡ laid self.old key value) }
         ensures err { OnErr result (self.new ≡ self.old) }
     {
-        if let Some(error) = self.refusal(key.as_slice(), value.as_slice()) {
+        if let Some(error) = refusal(&self.pairs, self.most, key.as_slice(), value.as_slice()) {
             return Err(error);
         }
         match self.pairs.insert(key.into_bytes(), value) {
             Ok(_) => Ok(()),
             Err(_) => Err(PutError::NoMemory),
-        }
-    }
-
-    /// Why a pair is not taken, if it is not.
-    fn refusal(&self, key: &[u8], value: &[u8]) -> Option<PutError>
-        ensures refusal { result ≡ refusal self.now key.now value.now }
-        ensures key { AreBytes key.now }
-        ensures value { AreBytes value.now }
-    {
-        let key_len = key.len() as u64;
-        let value_len = value.len() as u64;
-        if key_len > LONGEST_KEY {
-            Some(PutError::KeyLong { len: key_len })
-        } else if value_len > LONGEST_VALUE {
-            Some(PutError::ValueLong { len: value_len })
-        } else if self.len() >= self.most && !self.pairs.contains_key(key) {
-            Some(PutError::Full)
-        } else {
-            None
         }
     }
 

@@ -3,7 +3,24 @@ use std::alloc::{AllocError, Global};
 use std::test::Fail;
 
 fn put(pairs: &mut Pairs, alloc: Global, key: &[u8], value: &[u8]) -> Result<u8, AllocError> {
-    match pairs.put(Text::copy(alloc, key)?, Text::copy(alloc, value)?) {
+    answer(pairs.put(Text::copy(alloc, key)?, Text::copy(alloc, value)?))
+}
+
+fn change(
+    changes: &mut Changes,
+    alloc: Global,
+    key: &[u8],
+    value: Option<&[u8]>,
+) -> Result<u8, AllocError> {
+    let key = Text::copy(alloc, key)?;
+    match value {
+        Some(value) => answer(changes.put(key, Text::copy(alloc, value)?)),
+        None => answer(changes.remove(key)),
+    }
+}
+
+fn answer(put: Result<(), PutError>) -> Result<u8, AllocError> {
+    match put {
         Ok(()) => Ok(0),
         Err(PutError::KeyLong { .. }) => Ok(1),
         Err(PutError::ValueLong { .. }) => Ok(2),
@@ -36,6 +53,36 @@ fn pairs_in_order(rt: HostRuntime) -> Result<(), Fail> {
     assert!(rt; pairs.get(b"c").is_none());
     assert!(rt; pairs.len() == 3);
     assert_eq!(rt; pairs.at(2), rows[2]);
+    Ok(())
+}
+
+#[test]
+fn changes_in_order(rt: HostRuntime) -> Result<(), Fail> {
+    let alloc = rt.alloc();
+    let mut changes = Changes::new(alloc, 3);
+    assert_eq!(rt; changes.len(), 0);
+    let calls: [(&[u8], Option<&[u8]>, u8); 9] = [
+        (b"b", Some(b"1"), 0),
+        (b"", None, 0),
+        (b"b\0", Some(b""), 0),
+        (b"c", Some(b"3"), 3),
+        (b"c", None, 3),
+        (b"b", None, 0),
+        (b"", Some(b"4"), 0),
+        (&[7; 2115], None, 1),
+        (&[7; 2114], None, 3),
+    ];
+    for (key, value, expected) in calls {
+        assert_eq!(rt;
+            change(&mut changes, alloc, key, value)?,
+            expected,
+            "{key:?}"
+        );
+    }
+    let rows: [(&[u8], Option<&[u8]>); 3] = [(b"", Some(b"4")), (b"b", None), (b"b\0", Some(b""))];
+    assert_eq!(rt; changes.len(), 3);
+    assert_eq!(rt; changes.rows(alloc)?.as_slice(), rows.as_slice());
+    assert_eq!(rt; changes.at(1), rows[1]);
     Ok(())
 }
 

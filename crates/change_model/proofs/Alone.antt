@@ -7,7 +7,7 @@ use Rattle.trie_model.specs.State.{Row}
 use Rattle.trie_model.specs.Tree.{rest_behind, below, tree_of}
 use Rattle.trie_model.proofs.Members.{IsIn, all_of}
 use Rattle.trie_model.proofs.Rests.{AllHavePrefix, HasPrefix, below-append, rest_behind-append, rest_behind-prefix}
-use Rattle.change_model.specs.Changes.{Change, found_at}
+use Rattle.batch_model.specs.Changes.{Change, found_at}
 use Rattle.change_model.specs.Places.{above, is_branch, all_stand_below, leads_to}
 use Rattle.change_model.specs.Visits.{changes_behind, is_untouched}
 use Rattle.change_model.proofs.Forks.{Fork, fork-prefix}

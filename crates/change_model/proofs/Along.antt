@@ -5,7 +5,7 @@ use Rattle.byte_model.specs.Node.{ValueRef}
 use Rattle.byte_model.specs.Below.{sum_below}
 use Rattle.byte_model.proofs.Below.{sum_below-agree}
 use Rattle.visit_model.specs.Seen.{Seen, nothing, missing, bad, leaf, branch, extension, stated_usage}
-use Rattle.change_model.specs.Changes.{Change}
+use Rattle.batch_model.specs.Changes.{Change}
 use Rattle.change_model.specs.Visits.{Visits, before, opened, closed, visits_below, changes_behind, is_untouched, sets_some, has_value_after, any_below, is_named, is_left, numbers_below, lone_child, merged_child, visit_alone, visits_at, where_touched, if_touched, merge_visits, merge_usage, branch_cost, extension_cost}
 use Rattle.change_model.specs.Along.{digest_of, SameName, SameTop, IfTouched, SameAlong}
 

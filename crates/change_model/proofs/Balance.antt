@@ -19,13 +19,14 @@ use Rattle.trie_model.specs.Root.{texts_of, text_at, places_of}
 use Rattle.trie_model.proofs.Members.{IsIn, contains_of_in, in_of_contains, all_at}
 use Rattle.trie_model.proofs.Worked.{Pair, rows_of_pairs}
 use Rattle.trie_model.proofs.Order.{Before, Rising, rising-places_of}
-use Rattle.change_model.specs.Changes.{Changes, Change, after, decided, changed_paths}
+use Rattle.batch_model.specs.Changes.{Changes, Change, after, decided, changed_paths}
 use Rattle.change_model.specs.Places.{leads_to, is_place_of, is_written, written_places}
 use Rattle.change_model.specs.Ledger.{set_values, made_texts, fresh, gone}
 use Rattle.change_model.specs.Exchange.{is_given_up, former_values, taken_texts}
 use Rattle.visit_model.proofs.RisingRows.{both_so}
 use Rattle.trie_model.proofs.Order.{first_test, second_test}
-use Rattle.change_model.proofs.Laying.{ties, same_key, same_of_ties, all_of_get, where_key-agree, get-after, below-after}
+use Rattle.batch_model.proofs.Laying.{ties, same_key, same_of_ties, all_of_get, get-after}
+use Rattle.change_model.proofs.Below.{where_key-agree, below-after}
 use Rattle.trie_model.proofs.Costs.{text_at-same}
 use Rattle.change_model.proofs.Filtered.{in_filter, in_filter_from, map-agree_in}
 use Rattle.change_model.proofs.Touched.{is_place, place_from_test}

@@ -13,10 +13,10 @@ use Rattle.trie_model.proofs.Trees.{tree_of-forks, tree_of-shares, by_cases}
 use Rattle.trie_model.proofs.Children.{root_is_place, in_branch, in_extension}
 use Rattle.trie_model.proofs.Growth.{below-under_other}
 use Rattle.trie_model.proofs.Pairs.{Small, small-below, small-rows_of}
-use Rattle.change_model.specs.Changes.{Changes, after, changed_paths, AreChanges}
+use Rattle.batch_model.specs.Changes.{Changes, after, changed_paths, AreChanges}
 use Rattle.change_model.specs.Places.{above, is_branch, is_touched, leads_to, is_place_of}
 use Rattle.change_model.specs.Laws.{IsCut}
-use Rattle.change_model.proofs.Laying.{below-after}
+use Rattle.change_model.proofs.Below.{below-after}
 use Rattle.change_model.proofs.Filtered.{in_filter}
 use Rattle.change_model.proofs.Forks.{Fork, Stands, at_root, at_fork, behind_fork, fork-nil, below-under_cons, small_nibble}
 use Rattle.change_model.proofs.Touched.{stands_of_place, place_of_in, place_of_stands, is_place, above-behind, split_last}

@@ -14,9 +14,9 @@ use Rattle.trie_model.specs.State.{State, Row, rows_of}
 use Rattle.trie_model.specs.Tree.{rest_behind, below}
 use Rattle.trie_model.proofs.Rests.{rest_behind-prefix, prefix_and_rest}
 use Rattle.visit_model.specs.Keys.{key_of}
-use Rattle.change_model.specs.Changes.{Changes, Change, after, change_rows, decided, found_at}
+use Rattle.batch_model.specs.Changes.{Changes, Change, after, change_rows, decided, found_at}
 use Rattle.change_model.specs.Visits.{changes_behind}
-use Rattle.change_model.proofs.Laying.{ties, same_of_ties, get-after}
+use Rattle.batch_model.proofs.Laying.{ties, same_of_ties, get-after}
 
 -- ---- paths that are the same
 

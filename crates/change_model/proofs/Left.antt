@@ -17,9 +17,9 @@ use Rattle.trie_model.proofs.Trees.{tree_of-nil, tree_of-one, tree_of-forks, tre
 use Rattle.trie_model.proofs.Pairs.{Small, small-below}
 use Rattle.visit_model.specs.Shown.{shown}
 use Rattle.visit_model.specs.Keys.{key_of}
-use Rattle.change_model.specs.Changes.{Changes, Change, change_rows, decided, found_at}
+use Rattle.batch_model.specs.Changes.{Changes, Change, change_rows, decided, found_at}
 use Rattle.change_model.specs.Visits.{changes_behind, is_untouched, sets_some, is_deletion, is_deleted, is_some_after, has_value_after, any_below, is_left}
-use Rattle.change_model.proofs.Laying.{find_before}
+use Rattle.batch_model.proofs.Laying.{find_before}
 use Rattle.change_model.proofs.Laid.{IsLaid, laid-below, same_path, path_of_test, test_of_path, same_tests, found_at-below, found_at-changes_behind, found_at-nibbles, key_of-nibbles}
 
 -- ---- tests

@@ -1,5 +1,5 @@
 pub mod Filtered
-pub mod Laying
+pub mod Below
 pub mod Forks
 pub mod Touched
 pub mod Cuts

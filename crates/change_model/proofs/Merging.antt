@@ -12,9 +12,9 @@ use Rattle.trie_model.proofs.Trees.{tree_of-forks}
 use Rattle.trie_model.proofs.Pairs.{Small, small-below}
 use Rattle.visit_model.specs.Seen.{Seen}
 use Rattle.visit_model.specs.Shown.{shown}
-use Rattle.change_model.specs.Changes.{Change, found_at, decided}
+use Rattle.batch_model.specs.Changes.{Change, found_at, decided}
 use Rattle.change_model.specs.Places.{is_branch}
-use Rattle.change_model.specs.Visits.{changes_behind, is_untouched, is_some_after, has_value_after, is_left, numbers_below, lone_child, merged_child}
+use Rattle.change_model.specs.Visits.{changes_behind, is_untouched, has_value_after, is_left, numbers_below, lone_child, merged_child}
 use Rattle.change_model.proofs.Forks.{Fork}
 use Rattle.change_model.proofs.Laid.{IsLaid, laid-below, found_at-below, found_at-changes_behind}
 use Rattle.change_model.proofs.Left.{Apart, apart-behind, has_rows, has_rows-found, found_of_rows, small_found, value_left, left_as}

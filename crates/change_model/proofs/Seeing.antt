@@ -19,7 +19,7 @@ use Rattle.visit_model.specs.Shown.{shown}
 use Rattle.visit_model.proofs.SeenBounds.{place_fits, branch_room, extension_room}
 use Rattle.visit_model.proofs.ShownFits.{IsThere, FitsBelow}
 use Rattle.visit_model.proofs.ShownTrees.{TopSees, top_seen}
-use Rattle.change_model.specs.Changes.{Change}
+use Rattle.batch_model.specs.Changes.{Change}
 use Rattle.change_model.specs.Visits.{changes_behind, merged_child}
 use Rattle.change_model.specs.Along.{digest_of, SameName, SameTop, IfTouched, SameAlong}
 

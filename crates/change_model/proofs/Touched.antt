@@ -1,27 +1,26 @@
 -- What a batch does not touch stays, what it gives up it has touched, and above what remains alone there is no branch any more.
 use Rattle.std.proofs.Common.{◌≡◌, ◌≢◌, ℕ, nat_eq, ◌+◌, ◌-◌, ◌==◌, ◌&&◌, ◌||◌, not, Bool, true, false, List, [], ◌∷◌, ◌++◌, length, take, Option, None, Some, is_some, Contains, refl, sym, ◌∙◌, ap, subst, ◌⊎◌, inl, inr, arith, length-append}
-use Rattle.std.specs.List.{AllByRecursion, cons_option, list_any}
+use Rattle.std.specs.List.{cons_option, list_any}
 use Rattle.std.specs.Option.{option_map, option_and_then}
 use Rattle.std.specs.Cmp.Lexicographic.{pointwise, bytes_decides}
 use Rattle.std.proofs.Math.Seq.{take-append_seam}
 use Rattle.std.proofs.lemmas.Bool.{false≢true, and_parts, and_from, or_parts, or_from, or_left, or_right, true_from_ne_false, false_from_ne_true}
 use Rattle.std.proofs.lemmas.Bool.Decides.{nat_tests}
-use Rattle.byte_model.proofs.Digits.{AreNibbles-nibbles}
-use Rattle.trie_model.specs.State.{State, Row, rows_of, IsState, IsPair}
+use Rattle.trie_model.specs.State.{State, Row, rows_of, IsState}
 use Rattle.trie_model.specs.Tree.{rest_behind, below, tree_of}
 use Rattle.trie_model.specs.Texts.{places}
 use Rattle.trie_model.specs.Root.{places_of, subtree_at, text_at}
 use Rattle.std.specs.FinMap.{entries}
-use Rattle.trie_model.proofs.Worked.{Pair, rows_of_pairs}
 use Rattle.trie_model.proofs.Members.{IsIn, contains_of_in, in_of_contains}
 use Rattle.trie_model.proofs.Rests.{HasPrefix, AllHavePrefix, below-nil, below-append, rest_behind-append, rest_behind-prefix, prefix_and_rest}
 use Rattle.trie_model.proofs.Pairs.{Small, small_pairs}
 use Rattle.trie_model.proofs.Costs.{subtree_at-root, text_at-same}
 use Rattle.visit_model.specs.Bounds.{has_prefix}
-use Rattle.change_model.specs.Changes.{Changes, after, changed_paths, AreChanges}
+use Rattle.batch_model.specs.Changes.{Changes, after, changed_paths, AreChanges}
 use Rattle.change_model.specs.Places.{above, is_branch, all_stand_below, remains_alone, is_touched, is_place_of, is_written, leads_to}
 use Rattle.change_model.specs.Exchange.{is_given_up}
-use Rattle.change_model.proofs.Laying.{below-after, pairs-after}
+use Rattle.batch_model.proofs.Laying.{pairs-after}
+use Rattle.change_model.proofs.Below.{below-after}
 use Rattle.change_model.proofs.Forks.{Fork, Stands, at_root, at_fork, behind_fork, stands, places_stand, fork_unless_alone, fork-prefix}
 
 -- ---- the state afterwards

@@ -18,7 +18,7 @@ use Rattle.trie_model.proofs.Trees.{tree_of-nil, tree_of-one, tree_of-forks, tre
 use Rattle.trie_model.proofs.Pairs.{Small, small-below}
 use Rattle.visit_model.specs.Seen.{stated_usage}
 use Rattle.visit_model.specs.Shown.{shown}
-use Rattle.change_model.specs.Changes.{Change, found_at}
+use Rattle.batch_model.specs.Changes.{Change, found_at}
 use Rattle.change_model.specs.Visits.{Visits, no_usage, no_visits, before, and_then, opened, closed, most_usage, visits_below, changes_behind, is_untouched, merged_child, visit_alone, visits_at, where_touched, if_touched, merge_visits, merge_usage, branch_cost, extension_cost}
 use Rattle.change_model.proofs.Laid.{IsLaid, laid-below}
 use Rattle.change_model.proofs.Left.{Apart, apart-behind, has_rows, has_rows-found, found_of_rows}

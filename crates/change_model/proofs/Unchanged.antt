@@ -6,11 +6,11 @@ use Rattle.trie_model.specs.State.{State, Row, rows_of}
 use Rattle.trie_model.specs.Root.{texts_of, text_at, places_of}
 use Rattle.trie_model.proofs.Members.{IsIn, contains_of_in, in_of_contains, in-append_left, in-append_right, in-append_cases, in-map, in_map_from, all_of}
 use Rattle.trie_model.proofs.Worked.{Pair, rows_of_pairs}
-use Rattle.change_model.specs.Changes.{Changes, Change, after}
+use Rattle.batch_model.specs.Changes.{Changes, Change, after}
 use Rattle.change_model.specs.Places.{is_written, written_places}
 use Rattle.change_model.specs.Ledger.{set_values, made_texts}
 use Rattle.change_model.proofs.Filtered.{in_filter_from, in_filter_map_from}
-use Rattle.change_model.proofs.Laying.{get_of_all}
+use Rattle.batch_model.proofs.Laying.{get_of_all}
 use Rattle.change_model.proofs.Balance.{set_values-after}
 
 -- the value of a key is among those of the rows

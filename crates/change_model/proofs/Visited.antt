@@ -21,7 +21,7 @@ use Rattle.visit_model.specs.Seen.{Seen, seen, seen_at}
 use Rattle.visit_model.specs.Shown.{shown}
 use Rattle.visit_model.proofs.ShownFits.{IsThere, FitsBelow, state_fits}
 use Rattle.visit_model.proofs.ShownStates.{root_looked_up, no_root}
-use Rattle.change_model.specs.Changes.{Changes, Change, AreChanges, after, change_rows, changed_paths}
+use Rattle.batch_model.specs.Changes.{Changes, Change, AreChanges, after, change_rows, changed_paths}
 use Rattle.change_model.specs.Places.{above, is_branch, all_stand_below, leads_to, is_touched, remains_alone, touched_places}
 use Rattle.change_model.specs.Visits.{Visits, no_visits, changes_behind, is_untouched, visits_at, where_touched, batch_visits, merged_child}
 use Rattle.change_model.specs.Along.{IfTouched}

@@ -15,12 +15,12 @@ use Rattle.trie_model.specs.Root.{subtree_at, text_at, texts_of}
 use Rattle.trie_model.proofs.Worked.{Pair, rows_of_pairs, everything}
 use Rattle.visit_model.specs.Seen.{stated_usage}
 use Rattle.visit_model.specs.Shown.{shown}
-use Rattle.change_model.specs.Changes.{Changes, Change, after_change, after_each, after, change_rows, found_at}
+use Rattle.batch_model.specs.Changes.{Changes, Change, after_change, after_each, after, change_rows, found_at}
 use Rattle.change_model.specs.Visits.{and_then, opened, closed, visits_below, changes_behind, any_below, is_left, numbers_below, visit_alone, visits_at}
 use Rattle.change_model.specs.Places.{above, is_branch, all_stand_below, leads_to, is_touched, remains_alone, touched_places, is_written, written_places}
 use Rattle.change_model.specs.Ledger.{made_texts, gain, loss, fresh, gone}
 use Rattle.change_model.specs.Exchange.{is_given_up, taken_texts}
-use Rattle.change_model.proofs.Laying.{ties, same_key}
+use Rattle.batch_model.proofs.Laying.{ties, same_key}
 
 -- ---- the entries afterwards
 

@@ -1,7 +1,7 @@
 -- Two trees of what can be seen that a batch can't tell apart: at the places that it visits they are the same, and of the others they have the same digests.
 use Rattle.std.specs.Prelude.{◌≡◌, ℕ, ◌<◌, List, [], ◌∷◌, Option, None, Some}
 use Rattle.visit_model.specs.Seen.{Seen, nothing, missing, bad, leaf, branch, extension}
-use Rattle.change_model.specs.Changes.{Change}
+use Rattle.batch_model.specs.Changes.{Change}
 use Rattle.change_model.specs.Visits.{changes_behind, merged_child}
 
 -- the digest under which something is seen

@@ -2,7 +2,7 @@
 use Rattle.std.specs.Prelude.{[], ◌∷◌, None, Some}
 use Rattle.std.specs.FinMap.{from_sorted}
 use Rattle.trie_model.specs.State.{State}
-use Rattle.change_model.specs.Changes.{Changes}
+use Rattle.batch_model.specs.Changes.{Changes}
 
 -- the key 62 is deleted
 abbrev pub delete_b : Changes

@@ -6,7 +6,7 @@ use Rattle.std.specs.FinMap.{get, entries}
 use Rattle.sha2.specs.Sha256.{sha256}
 use Rattle.trie_model.specs.State.{State}
 use Rattle.trie_model.specs.Root.{text_at, places_of}
-use Rattle.change_model.specs.Changes.{Changes, after, changed_paths}
+use Rattle.batch_model.specs.Changes.{Changes, after, changed_paths}
 use Rattle.change_model.specs.Places.{leads_to, is_place_of}
 
 -- whether a place of the old state is on the path of a changed key, or no place of the new state

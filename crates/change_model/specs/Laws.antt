@@ -3,7 +3,7 @@ use Rattle.std.specs.Prelude.{◌≡◌, ◌≢◌, ℕ, false, List, [], ◌++�
 use Rattle.trie_model.specs.State.{State, rows_of}
 use Rattle.trie_model.specs.Tree.{below}
 use Rattle.trie_model.specs.Root.{subtree_at}
-use Rattle.change_model.specs.Changes.{Changes, after}
+use Rattle.batch_model.specs.Changes.{Changes, after}
 use Rattle.change_model.specs.Places.{is_branch, touched_places}
 
 -- A place of the new state is cut out of a touched place of the old one, in the middle of the path of its leaf or extension: the rows below the old place are those below the new one, with the nibbles in between put before them. So it is the rest of that leaf or extension, and no branch.

@@ -4,7 +4,7 @@ use Rattle.std.specs.List.{filter_map, count_by}
 use Rattle.std.specs.FinMap.{entries, contains_key}
 use Rattle.trie_model.specs.State.{State}
 use Rattle.trie_model.specs.Root.{text_at, digest_occurrences}
-use Rattle.change_model.specs.Changes.{Changes, after}
+use Rattle.batch_model.specs.Changes.{Changes, after}
 use Rattle.change_model.specs.Places.{written_places}
 
 -- the values that a batch sets, by rising key

@@ -1,5 +1,3 @@
--- a batch of changes, and a state with it laid over
-pub mod Changes
 -- the places of a state that a batch touches, and those that it writes
 pub mod Places
 -- the texts that a batch makes, what it gains and loses of a digest

@@ -8,7 +8,7 @@ use Rattle.trie_model.specs.Tree as tree
 use Rattle.trie_model.specs.Tree.{Tree}
 use Rattle.trie_model.specs.Root.{subtree_at, places_of}
 use Rattle.visit_model.specs.Bounds.{has_prefix}
-use Rattle.change_model.specs.Changes.{Changes, after, changed_paths}
+use Rattle.batch_model.specs.Changes.{Changes, after, changed_paths}
 
 -- whether one of some paths begins with a prefix
 unfoldable pub leads_to : List (List ℕ) → List ℕ → Bool

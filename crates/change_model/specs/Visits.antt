@@ -8,7 +8,7 @@ use Rattle.byte_model.specs.Node.{ValueRef, cost_of}
 use Rattle.trie_model.specs.Tree.{rest_behind}
 use Rattle.trie_model.specs.Root.{Table}
 use Rattle.visit_model.specs.Seen.{Seen, nothing, missing, bad, leaf, branch, extension, seen, stated_usage}
-use Rattle.change_model.specs.Changes.{Changes, Change, change_rows, found_at}
+use Rattle.batch_model.specs.Changes.{Changes, Change, change_rows, found_at}
 
 -- ---- how a batch ends
 

@@ -6,7 +6,7 @@ ghost use Rattle.sha2.specs.Sha256.{sha256};
 ghost use Rattle.trie_model.specs.Examples.{two_keys_state};
 ghost use Rattle.trie_model.specs.Root.{subtree_at, text_at};
 ghost use Rattle.visit_model.specs.Shown.{shown};
-ghost use Rattle.change_model.specs.Changes.{change_rows};
+ghost use Rattle.batch_model.specs.Changes.{change_rows};
 ghost use Rattle.change_model.specs.Visits.{visits_at};
 ghost use Rattle.change_model.specs.Places.{touched_places, written_places};
 ghost use Rattle.change_model.specs.Ledger.{fresh, gain, gone, loss, made_texts};

@@ -7,19 +7,13 @@ ghost use Rattle.sha2.specs.Sha256.{sha256};
 ghost use Rattle.trie_model.specs.State.{State, IsState, IsPair, rows_of};
 ghost use Rattle.trie_model.specs.Tree.{below};
 ghost use Rattle.trie_model.specs.Root.{Table, root, text_at, texts_of, places_of, subtree_at, digest_occurrences};
-ghost use Rattle.change_model.specs.Changes.{Changes, AreChanges, after, decided, changed_paths};
+ghost use Rattle.batch_model.specs.Changes.{Changes, AreChanges, after, decided, changed_paths};
 ghost use Rattle.change_model.specs.Places.{above, is_branch, is_place_of, is_touched, is_written, leads_to, remains_alone, touched_places};
 ghost use Rattle.change_model.specs.Ledger.{fresh, gain, gone, loss, made_texts};
 ghost use Rattle.change_model.specs.Exchange.{count_of_digest, is_given_up, taken_texts};
 ghost use Rattle.change_model.specs.Laws.{IsCut};
 ghost use Rattle.change_model.specs.Tables.{HoldsPlaces};
 ghost use Rattle.change_model.specs.Visits.{batch_visits};
-
-/// After a batch a changed key has what it was changed to, and every other key what it had. Keys and values stay within the limits.
-pub fn last_change_decides()
-    ensures values { (state : State) (changes : Changes) (key : List ℕ) → get (after state changes) key ≡ decided (get changes key) (get state key) }
-    ensures pairs { (state : State) (changes : Changes) → IsState state → AreChanges changes → AllByRecursion IsPair (entries (after state changes)) }
-{}
 
 /// What is not touched stays a place. And below any path on which no change stands, the rows stay, and so do the texts.
 pub fn untouched_places_stay()

@@ -51,7 +51,7 @@ module _ (held : PairMap) (rows : List Lent) (is : IsPairMap held) (e : lent row
   pub state-rows : AreRowsAt 0 rows
   state-rows = record {
     rises = subst Rises (sym (rows_at-state held.state rows e)) (rises (rows_of held.state) (rising-rows_of held.state));
-    each = each-row rows (subst (AllByRecursion IsPair) (sym e) is.pairs);
+    each = each-row rows (subst (AllByRecursion IsPair) (sym e) is.each);
   }
 
   whole_tree : tree_of (rows_at 0 rows) ≡ subtree_at held.state []
@@ -60,8 +60,8 @@ module _ (held : PairMap) (rows : List Lent) (is : IsPairMap held) (e : lent row
   pub state-fits : usage (tree_of (rows_at 0 rows)) < 2 ^ 64
   state-fits =
       let few = is.few in
-      let most = is.most in
-      let small = usage-lt held.state (record { pairs = is.pairs; few = omega arith }) [] in
+      let most = is.bounded in
+      let small = usage-lt held.state (record { pairs = is.each; few = omega arith }) [] in
       let same = ap usage whole_tree in
       omega arith
 

@@ -1,7 +1,7 @@
 use Rattle.std.proofs.Common.{Some, sym, ap, ◌∙◌}
 use Rattle.std.specs.List.{slice_get}
-use Rattle.base_core.specs.PairMaps.{shown_entries}
-use Rattle.base_core.proofs.PairMaps.{nth-shown_entries}
+use Rattle.base_core.specs.KeptMaps.{shown_entries}
+use Rattle.base_core.proofs.KeptMaps.{nth-shown_entries}
 use Rattle.base_core.proofs.pairs.pair_at.Goals as goal
 
 pub returns : goal.returns

@@ -1,5 +1,5 @@
 use Rattle.std.proofs.Common.{◌≡◌, ◌++◌, map}
-use Rattle.base_core.specs.PairMaps.{shown_entries}
+use Rattle.base_core.specs.KeptMaps.{shown_entries}
 use Rattle.base_core.proofs.pairs.rows_of.Given as goal
 
 abbrev pub invariant-loop-key : goal.invariant-loop-key

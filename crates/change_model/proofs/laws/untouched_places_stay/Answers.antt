@@ -1,6 +1,6 @@
 use Rattle.trie_model.proofs.Costs.{text_at-same}
-use Rattle.change_model.specs.Changes.{after}
-use Rattle.change_model.proofs.Laying.{below-after}
+use Rattle.batch_model.specs.Changes.{after}
+use Rattle.change_model.proofs.Below.{below-after}
 use Rattle.change_model.proofs.Touched.{untouched_stays}
 use Rattle.change_model.proofs.laws.untouched_places_stay.Goals as goal
 

@@ -1,6 +1,6 @@
 use Rattle.std.proofs.Common.{sym, ◌∙◌}
-use Rattle.base_core.proofs.PairMaps.{length-held}
+use Rattle.base_core.proofs.KeptMaps.{length-shown}
 use Rattle.base_core.proofs.pairs.Pairs.len.Goals as goal
 
 pub returns-clause-len : goal.returns-clause-len
-returns-clause-len c = rw (← c.self.view_is) (c.len.ensures.len ∙ sym (length-held _ _ c.self.invariant))
+returns-clause-len c = rw (← c.self.view_is) (c.len.ensures.len ∙ sym (length-shown _ c.self.invariant.sorted))

@@ -1,8 +1,8 @@
-use Rattle.base_core.proofs.PairMaps.{kept-none, state-none}
+use Rattle.base_core.proofs.KeptMaps.{kept-none, shown-none}
 use Rattle.base_core.proofs.pairs.Pairs.new.Goals as goal
 
 pub invariant_of-result : goal.invariant_of-result
 invariant_of-result c = kept-none _ _ c.new.ensures.empty c.requires
 
 pub returns-clause-state : goal.returns-clause-state
-returns-clause-state c = state-none _ c.args.most c.new.ensures.empty
+returns-clause-state c = shown-none _ c.new.ensures.empty

@@ -1,5 +1,5 @@
-use Rattle.base_core.proofs.PairMaps.{entries-held}
+use Rattle.base_core.proofs.KeptMaps.{entries-shown}
 use Rattle.base_core.proofs.pairs.Pairs.rows.Goals as goal
 
 pub returns-clause-rows : goal.returns-clause-rows
-returns-clause-rows c = rw (← c.self.view_is, entries-held _ _ c.self.invariant) c.rows_of.ensures
+returns-clause-rows c = rw (← c.self.view_is, entries-shown _ c.self.invariant.sorted) c.rows_of.ensures

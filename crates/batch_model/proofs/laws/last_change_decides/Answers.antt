@@ -1,5 +1,5 @@
-use Rattle.change_model.proofs.Laying.{get-after, pairs-after}
-use Rattle.change_model.proofs.laws.last_change_decides.Goals as goal
+use Rattle.batch_model.proofs.Laying.{get-after, pairs-after}
+use Rattle.batch_model.proofs.laws.last_change_decides.Goals as goal
 
 pub returns-clause-values : goal.returns-clause-values
 returns-clause-values c = get-after

@@ -1,0 +1,2 @@
+-- a batch of changes, and a state with it laid over
+pub mod Changes
