@@ -1,5 +1,5 @@
-//! What every crate of the store speaks of: digests, texts, pairs, changes, the limits, what an outside object
-//! answers where it fails, and the reader and writer of Borsh records.
+//! What every crate of the store speaks of: digests, texts, pairs, changes, the limits, what an
+//! outside object answers where it fails, and the reader and writer of Borsh records.
 #![tactic(auto)]
 
 mod borsh_error;
