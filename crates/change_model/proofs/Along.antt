@@ -50,7 +50,7 @@ is_left-untouched (leaf digest usage path ref) = refl
 is_left-untouched (branch digest usage ref kids) = refl
 is_left-untouched (extension digest usage path child) = refl
 
-abbrev SameBelow : Seen → Seen → List Change → Type 0
+abbrev pub SameBelow : Seen → Seen → List Change → Type 0
 SameBelow s other changes = IfTouched changes (SameAlong s other changes) (SameName s other)
 
 pub is_left-same : (s other : Seen) (changes : List Change) → SameBelow s other changes → is_left other changes ≡ is_left s changes
@@ -69,7 +69,7 @@ is_left-same (extension digest usage path child) other (c ∷ cs) same =
     ap (λ o. is_left o (c ∷ cs)) same.1
     ∙ ap (λ b. is_untouched (c ∷ cs) || sets_some (c ∷ cs) || b) (is_left-same child same.0 (changes_behind path (c ∷ cs)) same.2)
 
-merged_child-same : (ref : Option ValueRef) (kids others : ℕ → Seen) (changes : List Change) → ((x : ℕ) → x < 16 → SameBelow (kids x) (others x) (changes_behind (x ∷ []) changes)) → merged_child ref others changes ≡ merged_child ref kids changes
+pub merged_child-same : (ref : Option ValueRef) (kids others : ℕ → Seen) (changes : List Change) → ((x : ℕ) → x < 16 → SameBelow (kids x) (others x) (changes_behind (x ∷ []) changes)) → merged_child ref others changes ≡ merged_child ref kids changes
 merged_child-same ref kids others changes same =
     ap (λ (left : List ℕ). lone_child (has_value_after ref changes) left changes)
     (numbers_below-agree (λ x. is_left (others x) (changes_behind (x ∷ []) changes)) (λ x. is_left (kids x) (changes_behind (x ∷ []) changes)) 16
@@ -77,7 +77,7 @@ merged_child-same ref kids others changes same =
 
 -- ---- usages
 
-stated-top : (s other : Seen) → SameTop s other → stated_usage other ≡ stated_usage s
+pub stated-top : (s other : Seen) → SameTop s other → stated_usage other ≡ stated_usage s
 unfolding SameTop stated_usage
 stated-top nothing other same = ap stated_usage same
 stated-top (missing digest) other same = ap stated_usage same
@@ -86,7 +86,7 @@ stated-top (leaf digest usage path ref) other same = ap stated_usage same
 stated-top (branch digest usage ref kids) other same = ap stated_usage same.1
 stated-top (extension digest usage path child) other same = ap stated_usage same.1
 
-stated-along : (s other : Seen) (changes : List Change) → SameAlong s other changes → stated_usage other ≡ stated_usage s
+pub stated-along : (s other : Seen) (changes : List Change) → SameAlong s other changes → stated_usage other ≡ stated_usage s
 unfolding SameAlong stated_usage
 stated-along nothing other changes same = ap stated_usage same
 stated-along (missing digest) other changes same = ap stated_usage same
@@ -95,7 +95,7 @@ stated-along (leaf digest usage path ref) other changes same = ap stated_usage s
 stated-along (branch digest usage ref kids) other changes same = ap stated_usage same.1
 stated-along (extension digest usage path child) other changes same = ap stated_usage same.1
 
-stated-below : (s other : Seen) (changes : List Change) → SameBelow s other changes → if_touched changes (stated_usage other) ≡ if_touched changes (stated_usage s)
+pub stated-below : (s other : Seen) (changes : List Change) → SameBelow s other changes → if_touched changes (stated_usage other) ≡ if_touched changes (stated_usage s)
 stated-below s other [] same = refl
 stated-below s other (c ∷ cs) same = stated-along s other (c ∷ cs) same
 
@@ -110,14 +110,14 @@ visit_alone-same (leaf digest usage path ref) other same = ap visit_alone same
 visit_alone-same (branch digest usage ref kids) other same = ap visit_alone same.1
 visit_alone-same (extension digest usage path child) other same = ap visit_alone same.1
 
-abbrev SameMerged : (ℕ → Seen) → (ℕ → Seen) → Option ℕ → Type 0
+abbrev pub SameMerged : (ℕ → Seen) → (ℕ → Seen) → Option ℕ → Type 0
 SameMerged kids others merged = (x : ℕ) → merged ≡ Some x → SameTop (kids x) (others x)
 
 merge_visits-same : (kids others : ℕ → Seen) (merged : Option ℕ) → SameMerged kids others merged → merge_visits others merged ≡ merge_visits kids merged
 merge_visits-same kids others None same = refl
 merge_visits-same kids others (Some x) same = visit_alone-same (kids x) (others x) (same x refl)
 
-merge_usage-same : (kids others : ℕ → Seen) (merged : Option ℕ) → SameMerged kids others merged → merge_usage others merged ≡ merge_usage kids merged
+pub merge_usage-same : (kids others : ℕ → Seen) (merged : Option ℕ) → SameMerged kids others merged → merge_usage others merged ≡ merge_usage kids merged
 merge_usage-same kids others None same = refl
 merge_usage-same kids others (Some x) same = stated-top (kids x) (others x) (same x refl)
 

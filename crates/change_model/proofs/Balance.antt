@@ -33,7 +33,7 @@ use Rattle.change_model.proofs.Touched.{is_place, place_from_test}
 
 -- ---- sums
 
-sum_by-map : {X Y : Type 0} (f : Y → ℕ) (h : X → Y) (xs : List X) → sum_by f (map h xs) ≡ sum_by (λ x. f (h x)) xs
+pub sum_by-map : {X Y : Type 0} (f : Y → ℕ) (h : X → Y) (xs : List X) → sum_by f (map h xs) ≡ sum_by (λ x. f (h x)) xs
 sum_by-map {Y = Y} f h xs = fold-map (λ (n : ℕ) (y : Y). n + f y) h 0 xs
 
 -- ---- the values of the changed keys

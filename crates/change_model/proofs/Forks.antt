@@ -117,18 +117,18 @@ fork_unless_alone x (row ∷ next ∷ rows) some apart = go (common_prefix row (
         absurd (apart (subst (λ z. AllHavePrefix (z ∷ []) (row ∷ next ∷ rows)) (sym same) (all_begin y prefix (row ∷ next ∷ rows) all)))
 
 -- rows fork below the prefix that they share
-shared_prefix : List Row → List ℕ
+pub shared_prefix : List Row → List ℕ
 shared_prefix [] = []
 shared_prefix (row ∷ rows) = common_prefix row rows
 
-fork_of_under : (prefix : List ℕ) (rest : List Row) (row next : Row) (rows : List Row) → under prefix rest ≡ row ∷ next ∷ rows → common_prefix row (next ∷ rows) ≡ prefix → Fork rest
+pub fork_of_under : (prefix : List ℕ) (rest : List Row) (row next : Row) (rows : List Row) → under prefix rest ≡ row ∷ next ∷ rows → common_prefix row (next ∷ rows) ≡ prefix → Fork rest
 unfolding shared_prefix
 fork_of_under prefix [] row next rows same e = cc
 fork_of_under prefix (one ∷ []) row next rows same e = cc
 fork_of_under prefix (one ∷ two ∷ rest) row next rows same e =
     fork-forks one two rest (append_cancel_left prefix (common_prefix one (two ∷ rest)) [] (sym (common_prefix-under prefix one (two ∷ rest)) ∙ ap shared_prefix same ∙ e ∙ sym (append-nil prefix)))
 
-fork_of_shared : (prefix : List ℕ) (row next : Row) (rows : List Row) → common_prefix row (next ∷ rows) ≡ prefix → AllHavePrefix prefix (row ∷ next ∷ rows) → Fork (below prefix (row ∷ next ∷ rows))
+pub fork_of_shared : (prefix : List ℕ) (row next : Row) (rows : List Row) → common_prefix row (next ∷ rows) ≡ prefix → AllHavePrefix prefix (row ∷ next ∷ rows) → Fork (below prefix (row ∷ next ∷ rows))
 fork_of_shared prefix row next rows e all = fork_of_under prefix (below prefix (row ∷ next ∷ rows)) row next rows (under-below prefix (row ∷ next ∷ rows) all) e
 
 -- ---- places

@@ -68,7 +68,7 @@ unfolding has_rows found_at
 has_rows-found [] q v e = cc
 has_rows-found (row ∷ rows) q v e = refl
 
-same_itself : (p : List ℕ) → same_path p p ≡ true
+pub same_itself : (p : List ℕ) → same_path p p ≡ true
 same_itself p = test_of_path p p refl
 
 pub found_of_rows : (rows : List Row) → has_rows rows ≡ true → (q : List ℕ) × (v : List ℕ) × (found_at q rows ≡ Some v)

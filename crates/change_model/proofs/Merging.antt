@@ -22,7 +22,7 @@ use Rattle.change_model.proofs.Alone.{leads_to-here, Alone, alone, alone_from, a
 
 -- ---- the numbers at which a test holds
 
-in_numbers : (f : ℕ → Bool) (n y : ℕ) → y < n → f y ≡ true → IsIn (numbers_below f n) y
+pub in_numbers : (f : ℕ → Bool) (n y : ℕ) → y < n → f y ≡ true → IsIn (numbers_below f n) y
 unfolding numbers_below
 in_numbers f zero y h e = absurd (omega arith)
 in_numbers f (suc n) y h e =
@@ -34,7 +34,7 @@ in_numbers f (suc n) y h e =
           in-append_right (numbers_below f n) (if f n then n ∷ [] else []) y (subst (λ (b : Bool). IsIn (if b then n ∷ [] else []) y) (sym here) (inl last))
     ]
 
-number_from : (f : ℕ → Bool) (n y : ℕ) → IsIn (numbers_below f n) y → (y < n) × (f y ≡ true)
+pub number_from : (f : ℕ → Bool) (n y : ℕ) → IsIn (numbers_below f n) y → (y < n) × (f y ≡ true)
 unfolding numbers_below
 number_from f zero y h = absurd h
 number_from f (suc n) y h =
@@ -48,12 +48,12 @@ number_from f (suc n) y h =
     last true e (inr none) = absurd none
     last false e none = absurd none
 
-no_numbers : (f : ℕ → Bool) (n : ℕ) → ((y : ℕ) → y < n → f y ≡ false) → numbers_below f n ≡ []
+pub no_numbers : (f : ℕ → Bool) (n : ℕ) → ((y : ℕ) → y < n → f y ≡ false) → numbers_below f n ≡ []
 unfolding numbers_below
 no_numbers f zero none = refl
 no_numbers f (suc n) none = ap₂ (λ (a : List ℕ) (b : Bool). a ++ (if b then n ∷ [] else [])) (no_numbers f n (λ y h. none y (omega arith))) (none n (omega arith))
 
-only_number : (f : ℕ → Bool) (n x : ℕ) → x < n → f x ≡ true → ((y : ℕ) → y < n → y ≢ x → f y ≡ false) → numbers_below f n ≡ x ∷ []
+pub only_number : (f : ℕ → Bool) (n x : ℕ) → x < n → f x ≡ true → ((y : ℕ) → y < n → y ≢ x → f y ≡ false) → numbers_below f n ≡ x ∷ []
 unfolding numbers_below
 only_number f zero x h e none = absurd (omega arith)
 only_number f (suc n) x h e none =
@@ -71,7 +71,7 @@ record IsLone (value : Bool) (left : List ℕ) (changes : List Change) (x : ℕ)
   only : left ≡ x ∷ []
   untouched : changes_behind (x ∷ []) changes ≡ []
 
-untouched_none : (cs : List Change) → is_untouched cs ≡ true → cs ≡ []
+pub untouched_none : (cs : List Change) → is_untouched cs ≡ true → cs ≡ []
 untouched_none [] e = refl
 untouched_none (c ∷ cs) e = absurd (false≢true e)
 

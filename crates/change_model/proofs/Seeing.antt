@@ -55,7 +55,7 @@ pub digest_of-seen_at : (table : Table) (depth : ℕ) (after_extension : Bool) (
 unfolding seen_at
 digest_of-seen_at table depth after_extension digest = digest_of-within (suc longest_path - depth) table depth after_extension digest
 
-digest_of-shown : (tree : Tree) → digest_of (shown tree) ≡ name_of tree (text tree)
+pub digest_of-shown : (tree : Tree) → digest_of (shown tree) ≡ name_of tree (text tree)
 unfolding digest_of shown name_of
 digest_of-shown nothing = refl
 digest_of-shown (leaf path value) = refl

@@ -40,12 +40,12 @@ place_of_in state place h = contains_of_in (places_of state) place (subst (λ t.
 pub place_of_stands : (state : State) (place : List ℕ) → Small (rows_of state) → Stands (rows_of state) place → Contains (places_of state) place
 place_of_stands state place small h = place_of_in state place (places_stand (rows_of state) small place h)
 
-any_of_in : (place : List ℕ) (others : List (List ℕ)) → IsIn others place → list_any (λ other. pointwise nat_eq other place) others ≡ true
+pub any_of_in : (place : List ℕ) (others : List (List ℕ)) → IsIn others place → list_any (λ other. pointwise nat_eq other place) others ≡ true
 any_of_in place [] h = absurd h
 any_of_in place (other ∷ others) (inl e) = or_left _ _ ((bytes_decides other place).1 e)
 any_of_in place (other ∷ others) (inr h) = or_right _ _ (any_of_in place others h)
 
-in_of_any : (place : List ℕ) (others : List (List ℕ)) → list_any (λ other. pointwise nat_eq other place) others ≡ true → IsIn others place
+pub in_of_any : (place : List ℕ) (others : List (List ℕ)) → list_any (λ other. pointwise nat_eq other place) others ≡ true → IsIn others place
 in_of_any place [] e = absurd (false≢true e)
 in_of_any place (other ∷ others) e = go (pointwise nat_eq other place) refl (in_of_any place others) e
   where

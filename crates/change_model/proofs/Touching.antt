@@ -27,18 +27,18 @@ use Rattle.change_model.proofs.Alone.{alone, touched, touched-root, touched-behi
 
 -- ---- sums
 
-sum_below-plus : (f g : ℕ → ℕ) (n : ℕ) → sum_below (λ x. f x + g x) n ≡ sum_below f n + sum_below g n
+pub sum_below-plus : (f g : ℕ → ℕ) (n : ℕ) → sum_below (λ x. f x + g x) n ≡ sum_below f n + sum_below g n
 unfolding sum_below
 sum_below-plus f g zero = omega arith
 sum_below-plus f g (suc n) = let h = sum_below-plus f g n in omega arith
 
-sum_below-none : (f : ℕ → ℕ) (n : ℕ) → ((x : ℕ) → x < n → f x ≡ 0) → sum_below f n ≡ 0
+pub sum_below-none : (f : ℕ → ℕ) (n : ℕ) → ((x : ℕ) → x < n → f x ≡ 0) → sum_below f n ≡ 0
 unfolding sum_below
 sum_below-none f zero none = refl
 sum_below-none f (suc n) none = let h = sum_below-none f n (λ x k. none x (omega arith)) in let last = none n (omega arith) in omega arith
 
 -- one of them alone is not 0
-sum_below-single : (f : ℕ → ℕ) (n y : ℕ) → y < n → ((x : ℕ) → x < n → x ≢ y → f x ≡ 0) → sum_below f n ≡ f y
+pub sum_below-single : (f : ℕ → ℕ) (n y : ℕ) → y < n → ((x : ℕ) → x < n → x ≢ y → f x ≡ 0) → sum_below f n ≡ f y
 unfolding sum_below
 sum_below-single f zero y h none = absurd (omega arith)
 sum_below-single f (suc n) y h none =
@@ -59,19 +59,19 @@ sum_by-none : (f : List ℕ → ℕ) (ps : List (List ℕ)) → ((q : List ℕ) 
 sum_by-none f [] none = refl
 sum_by-none f (p ∷ ps) none = let h = sum_by-none f ps none in let first = none p in sum_by-cons f p ps ∙ (omega arith)
 
-sum_by-behind : (f : List ℕ → ℕ) (prefix : List ℕ) (ps : List (List ℕ)) → sum_by f (behind prefix ps) ≡ sum_by (λ q. f (prefix ++ q)) ps
+pub sum_by-behind : (f : List ℕ → ℕ) (prefix : List ℕ) (ps : List (List ℕ)) → sum_by f (behind prefix ps) ≡ sum_by (λ q. f (prefix ++ q)) ps
 sum_by-behind f prefix [] = refl
 sum_by-behind f prefix (p ∷ ps) =
     sum_by-cons f (prefix ++ p) (behind prefix ps) ∙ ap (λ n. f (prefix ++ p) + n) (sum_by-behind f prefix ps) ∙ sym (sum_by-cons (λ q. f (prefix ++ q)) p ps)
 
 -- over the places of a branch and of an extension
-sum_by-branch : (f : List ℕ → ℕ) (value : Option (List ℕ)) (kids : ℕ → Tree) → sum_by f (places (branch value kids)) ≡ f [] + sum_below (λ x. sum_by (λ q. f (x ∷ q)) (places (kids x))) 16
+pub sum_by-branch : (f : List ℕ → ℕ) (value : Option (List ℕ)) (kids : ℕ → Tree) → sum_by f (places (branch value kids)) ≡ f [] + sum_below (λ x. sum_by (λ q. f (x ∷ q)) (places (kids x))) 16
 unfolding places
 sum_by-branch f value kids =
     sum_by-cons f [] (joined_below (λ x. behind (x ∷ []) (places (kids x))) 16)
     ∙ ap (λ n. f [] + n) (sum_by-joined_below f (λ x. behind (x ∷ []) (places (kids x))) 16 ∙ sum_below-agree _ _ 16 (λ x h. sum_by-behind f (x ∷ []) (places (kids x))))
 
-sum_by-extension : (f : List ℕ → ℕ) (path : List ℕ) (child : Tree) → sum_by f (places (extension path child)) ≡ f [] + sum_by (λ q. f (path ++ q)) (places child)
+pub sum_by-extension : (f : List ℕ → ℕ) (path : List ℕ) (child : Tree) → sum_by f (places (extension path child)) ≡ f [] + sum_by (λ q. f (path ++ q)) (places child)
 unfolding places
 sum_by-extension f path child = sum_by-cons f [] (behind path (places child)) ∙ ap (λ n. f [] + n) (sum_by-behind f path (places child))
 

@@ -138,7 +138,7 @@ module _ (table : Table) where
 
 -- ---- of a state
 
-paths-change_rows : (changes : Changes) → changed_paths changes ≡ paths_of (change_rows changes)
+pub paths-change_rows : (changes : Changes) → changed_paths changes ≡ paths_of (change_rows changes)
 paths-change_rows changes = go (entries changes)
   where
     go : (es : List Change) → map (λ (change : Change). nibbles change.0) es ≡ map (λ (change : Change). change.0) (map (λ (change : Change). (nibbles change.0, change.1)) es)
