@@ -1,0 +1,18 @@
+-- places of blocks
+pub mod Places
+-- prevs stand before
+pub mod Earlier
+-- what is kept
+pub mod Kept
+-- the place before one
+pub mod Before
+-- the table as it changes
+pub mod Tables
+-- blocks and places told apart
+pub mod Apart
+-- what a move makes of blocks
+pub mod Fates
+-- plans of moves
+pub mod Planned
+-- a move that is carried out
+pub mod Leaving

@@ -1,0 +1,23 @@
+use Rattle.std.proofs.Common.{cond, length, Some, arith, sym, ◌∙◌, ap, subst}
+use Rattle.std.proofs.lemmas.List.{length-append}
+use Rattle.std.specs.Str.{bytes_eq}
+use Rattle.fork_model.specs.Trees.{block_fault}
+use Rattle.fork_model.proofs.Faults.{accepted}
+use Rattle.fork_tree.specs.Kept.{IsKept, placed}
+use Rattle.fork_tree.proofs.Kept.{kept-push, length-headers}
+use Rattle.fork_tree.proofs.forks.Forks.add.Goals as goal
+
+pub invariant_of-self : goal.invariant_of-self
+invariant_of-self c =
+    let ok = ap (λ s. block_fault s.most s.tree (record { id = c.args.id.0; prev = c.args.prev.0; height = c.args.height })) c.self.view_is ∙ c.requires.accepted in
+    let place = c.len-place.ensures ∙ c.self.inside.live.ok.0 in
+    let taken = accepted _ _ _ ok in
+    let room = taken.room in
+    let all = length-headers c.self.inside.live.items in
+    let more = ap length c.in-Ok.ensures.items ∙ length-append c.self.inside.live.items _ in
+    record {
+      kept = subst (λ blocks. IsKept blocks c.insert.new.self.entries) (sym c.in-Ok.ensures.items)
+          (kept-push _ _ _ _ c.insert.new.self.entries c.self.invariant.kept ok
+          (λ q. c.in-Ok-insert.ensures.updates.0 (record { 0 = q }) ∙ ap (λ n. cond (bytes_eq c.args.id.0 q) (Some n) (placed c.self.inside.places.entries q)) place));
+      bounded = omega (arith, room, all, more);
+    }

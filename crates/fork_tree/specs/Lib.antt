@@ -1,0 +1,4 @@
+-- how the tree is kept, and what contracts see of it
+pub mod Kept
+-- what calls answer
+pub mod Answers

@@ -1,0 +1,9 @@
+use base_core::Digest;
+
+/// A live block.
+#[derive(Clone, Copy, Debug)]
+pub(crate) struct Block {
+    pub(crate) id: Digest,
+    pub(crate) prev: Digest,
+    pub(crate) height: u64,
+}
