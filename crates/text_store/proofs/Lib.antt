@@ -4,3 +4,14 @@ pub mod Tables
 pub mod StoreStates
 pub mod Changes
 pub mod Leaves
+pub mod TextSets
+pub mod Writing
+pub mod Listing
+pub mod Order
+pub mod PartialTables
+pub mod Marks
+pub mod Loads
+pub mod Holding
+pub mod Gathering
+pub mod Answering
+pub mod Setting

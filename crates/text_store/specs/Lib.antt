@@ -10,3 +10,7 @@ pub mod Leaves
 pub mod Counting
 -- a store in memory
 pub mod StoreStates
+-- sets of texts
+pub mod TextSets
+-- partial states
+pub mod PartialStates

@@ -1,0 +1,65 @@
+//! The entries of the table in which a partial state is kept.
+
+ghost use Rattle.std.specs.Prelude.{◌≡◌, ◌||◌, ◌++◌, ◌∷◌, [], ℕ, List, nat_eq, not, position, Some, IfOk, OnOk, IfNone};
+ghost use Rattle.std.specs.Option.{option_map};
+ghost use Rattle.std.specs.Cmp.Lexicographic.{pointwise};
+ghost use Rattle.indexmap.specs.IndexMap.{values};
+ghost use Rattle.sha2.specs.Sha256.{sha256};
+ghost use Rattle.byte_model.specs.Nibbles.{AreBytes};
+ghost use Rattle.partial_model.specs.Texts.{lesser};
+ghost use Rattle.text_store.specs.PartialStates.{digest_taken, fresh_entry, has_digest};
+
+use crate::keyed::Keyed;
+use base_core::{Digest, Text, digest};
+use indexmap::IndexMap;
+use std::alloc::{AllocError, Global};
+
+/// A text of a partial state, and whether it was loaded.
+#[derive(Debug, Drop)]
+pub(crate) struct Marked {
+    pub(crate) text: Text,
+    pub(crate) used: bool,
+}
+
+/// Puts a text last, under its digest. Where that is the zero one, or was taken, it is answered, and
+/// the texts are of no more use.
+pub(crate) fn hold(
+    held: &mut IndexMap<Digest, Marked, Keyed>,
+    text: Text,
+) -> Result<Option<Digest>, AllocError>
+    ensures taken { IfOk result (λ taken. option_map (λ digest. digest.0) taken ≡ digest_taken held.old.entries (sha256 text)) }
+    ensures has { OnOk result ((digest : List ℕ) → has_digest held.new.entries digest ≡ (pointwise nat_eq (sha256 text) digest || has_digest held.old.entries digest)) }
+    ensures last { IfOk result (λ taken. IfNone taken (held.new.entries ≡ held.old.entries ++ fresh_entry text ∷ [])) }
+{
+    let digest = digest(text.as_slice());
+    match held.insert(digest, Marked { text, used: false }) {
+        Ok(None) if digest != Digest::ZERO => Ok(None),
+        Ok(_) => Ok(Some(digest)),
+        Err(_) => Err(AllocError),
+    }
+}
+
+/// The first place whose text was not loaded.
+pub(crate) fn first_unmarked(held: &IndexMap<Digest, Marked, Keyed>) -> Option<usize>
+    ensures { result ≡ position (λ marked. not marked.used) (values held.now) }
+{
+    held.values().position(|marked| !marked.used)
+}
+
+/// The lesser of two digests, where there are two.
+pub(crate) fn least_of(least: Option<Digest>, digest: Digest) -> Digest
+    ensures { Some result.0 ≡ lesser (option_map (λ d. d.0) least) (Some digest.0) }
+{
+    match least {
+        Some(least) => least.min(digest),
+        None => digest,
+    }
+}
+
+/// A copy of some bytes.
+pub(crate) fn copied(alloc: Global, text: &[u8]) -> Result<Text, AllocError>
+    ensures copy { IfOk result (λ copy. copy ≡ text.now) }
+    ensures bytes { AreBytes text.now }
+{
+    Text::copy(alloc, text)
+}
