@@ -1,5 +1,5 @@
 #!/usr/bin/env python3
-"""Writes the input of lookup_bench to standard output, the same for the same words.
+"""Writes lookups, an input of trie_bench, to standard output, the same for the same words.
 
     lookups.py [PAIRS] [LOOKUPS] [SEED] [WORD]
 

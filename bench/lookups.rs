@@ -1,4 +1,4 @@
-//! The plain program that lookup_bench is compared with: the same input, the same tests of each
+//! The plain program that trie_bench is compared with: the same input, the same tests of each
 //! record, and the standard library's HashMap from digest to text. Nothing in it is proved.
 
 use std::collections::HashMap;

@@ -1,0 +1,259 @@
+-- What stands at the sixteen nibbles of what is left of a branch: how many children are there, and what they join to.
+use Rattle.std.proofs.Common.{◌≡◌, ◌≢◌, ℕ, zero, suc, ◌+◌, ◌^◌, ◌<◌, ◌≤◌, Bool, true, false, List, [], ◌∷◌, ◌++◌, length, drop, set, get_or, Option, None, Some, is_some, option_map, if◌then◌else◌, inl, inr, refl, sym, ◌∙◌, ap, ap₂, subst, arith, get_or-set_other, get_or-set_same}
+use Rattle.std.specs.List.{AllByRecursion}
+use Rattle.std.proofs.lemmas.Bool.{cases_lt}
+use Rattle.std.proofs.lemmas.List.{length-append, length-drop, drop-drop}
+use Rattle.std.proofs.Math.ListN.{length-set}
+use Rattle.sha2.specs.Sha256.{sha256}
+use Rattle.byte_model.specs.Below.{sum_below, joined_below}
+use Rattle.byte_model.proofs.Below.{sum_below-agree, sum_below-more, joined_below-agree, joined_below-more}
+use Rattle.byte_model.proofs.Lists.{AllByRecursion-append, AllByRecursion-weaker}
+use Rattle.byte_model.specs.Borsh.{borsh_u16, borsh_u64}
+use Rattle.byte_model.specs.Node as node
+use Rattle.byte_model.specs.Node.{ValueRef, IsShaped, longest_value, own_cost, spelled, spelled_children, spelled_value, child_bit, child_digest, child_count}
+use Rattle.change_model.specs.Visits.{numbers_below, branch_cost}
+use Rattle.base_core.specs.declared.hash.Digest.{Digest}
+use Rattle.node_codec.specs.Meanings.{children_in}
+use Rattle.update_model.specs.Tops.{empty, leaf, branch, extension, lowered, top_digest}
+use Rattle.update_model.specs.Joins.{Kid, named, known, is_there, there, kid_top, kid_name, kid_usage, kid_pending, without_texts, branch_used, branch_text, branched, joint_by, joint}
+use Rattle.trie_shape.specs.declared.closed.Closed.{Closed}
+use Rattle.trie_shape.specs.Shows.{IsRecord}
+use Rattle.trie_update.specs.declared.joining.Child.{Child}
+use Rattle.trie_update.specs.declared.joining.Few.{Few}
+use Rattle.trie_update.specs.declared.joining.Few.TheVariants.{Zero, One, More}
+use Rattle.trie_update.specs.declared.ledger.Ledger.{Ledger}
+use Rattle.trie_update.specs.Adds.{Adds}
+use Rattle.trie_update.specs.Subs.{CanFork, CanJoin, IsFew, KidStands, childless, kid_at, kid_of, more}
+use Rattle.trie_update.proofs.Adding.{adds-none, adds-then, adds-same}
+
+-- ---- the child at a nibble
+
+pub kid_at-item : (children : List Child) (x : ℕ) (item : Child) → x < length children → item ≡ get_or children x item → kid_at children x ≡ kid_of item
+unfolding kid_at
+kid_at-item [] x item h e = absurd (omega arith)
+kid_at-item (first ∷ children) zero item h e = ap kid_of (sym e)
+kid_at-item (first ∷ children) (suc x) item h e = kid_at-item children x item (omega arith) e
+
+pub kid_at-drop : (children : List Child) (n : ℕ) → kid_at (drop n children) 0 ≡ kid_at children n
+unfolding kid_at
+kid_at-drop children zero = refl
+kid_at-drop [] (suc n) = refl
+kid_at-drop (first ∷ children) (suc n) = kid_at-drop children n
+
+pub kid_at-first : (children rest : List Child) (first : Child) → children ≡ first ∷ rest → kid_at children 0 ≡ kid_of first
+unfolding kid_at
+kid_at-first children rest first e = ap (λ (cs : List Child). kid_at cs 0) e
+
+-- ---- how many are there
+
+pub there-kid : (kid : Kid) → is_some (kid_name kid) ≡ is_there kid
+unfolding kid_name is_there top_digest
+there-kid (named digest) = refl
+there-kid (known empty) = refl
+there-kid (known (leaf path ref)) = refl
+there-kid (known (branch digest used)) = refl
+there-kid (known (extension path child used)) = refl
+
+pub few-none : (f : ℕ → Bool) → IsFew (numbers_below f 0) Zero
+unfolding numbers_below
+few-none f = refl
+
+one_number : (f : ℕ → Bool) (n : ℕ) → f n ≡ true → numbers_below f (n + 1) ≡ numbers_below f n ++ n ∷ []
+unfolding numbers_below
+one_number f n e = let next : n + 1 ≡ suc n = omega arith in ap (numbers_below f) next ∙ ap (λ (b : Bool). numbers_below f n ++ (if b then n ∷ [] else [])) e
+
+append_none : (xs : List ℕ) → xs ++ [] ≡ xs
+append_none [] = refl
+append_none (x ∷ xs) = ap (λ (ys : List ℕ). x ∷ ys) (append_none xs)
+
+no_number : (f : ℕ → Bool) (n : ℕ) → f n ≡ false → numbers_below f (n + 1) ≡ numbers_below f n
+unfolding numbers_below
+no_number f n e = let next : n + 1 ≡ suc n = omega arith in ap (numbers_below f) next ∙ ap (λ (b : Bool). numbers_below f n ++ (if b then n ∷ [] else [])) e ∙ append_none (numbers_below f n)
+
+more-few : (few : Few) (ns : List ℕ) (n : ℕ) → IsFew ns few → IsFew (ns ++ n ∷ []) (more few n)
+more-few Zero ns n h = ap (λ (m : List ℕ). m ++ n ∷ []) h
+more-few (One x) ns n h = let long = ap length h in let all = length-append ns (n ∷ []) in omega arith
+more-few More ns n h = let all = length-append ns (n ∷ []) in omega arith
+
+pub few-more : (f : ℕ → Bool) (n : ℕ) (few : Few) → IsFew (numbers_below f n) few → f n ≡ true → IsFew (numbers_below f (n + 1)) (more few n)
+few-more f n few h e = subst (λ (ns : List ℕ). IsFew ns (more few n)) (sym (one_number f n e)) (more-few few (numbers_below f n) n h)
+
+pub few-same : (f : ℕ → Bool) (n : ℕ) (few : Few) → IsFew (numbers_below f n) few → f n ≡ false → IsFew (numbers_below f (n + 1)) few
+few-same f n few h e = subst (λ (ns : List ℕ). IsFew ns few) (sym (no_number f n e)) h
+
+count-numbers : (f : ℕ → Bool) (n : ℕ) → sum_below (λ x. if f x then 1 else 0) n ≡ length (numbers_below f n)
+unfolding sum_below numbers_below
+count-numbers f zero = refl
+count-numbers f (suc n) =
+    let further = count-numbers f n in
+    let all = length-append (numbers_below f n) (if f n then n ∷ [] else []) in
+    let last : length (if f n then n ∷ [] else []) ≡ (if f n then 1 else 0) = elim (f n) as (λ b. length (if b then n ∷ [] else []) ≡ (if b then 1 else 0)) [ true ↦ refl | false ↦ refl ] in
+    omega arith
+
+count-there : (kids : ℕ → Kid) → child_count (λ x. kid_name (kids x)) ≡ length (there kids)
+count-there kids =
+    sum_below-agree (λ x. if is_some (kid_name (kids x)) then 1 else 0) (λ x. if is_there (kids x) then 1 else 0) 16 (λ x h. ap (λ (b : Bool). if b then 1 else 0) (there-kid (kids x)))
+    ∙ count-numbers (λ x. is_there (kids x)) 16
+
+numbers-all : (f : ℕ → Bool) (n : ℕ) → AllByRecursion (λ y. (y < n) × (f y ≡ true)) (numbers_below f n)
+unfolding numbers_below
+numbers-all f zero = tt
+numbers-all f (suc n) =
+    AllByRecursion-append (λ y. (y < suc n) × (f y ≡ true)) (numbers_below f n) (if f n then n ∷ [] else [])
+    (AllByRecursion-weaker (λ y. (y < n) × (f y ≡ true)) (λ y. (y < suc n) × (f y ≡ true)) (λ y h. (let small = h.0 in omega arith, h.1)) (numbers_below f n) (numbers-all f n))
+    (elim (f n) as (λ b. f n ≡ b → AllByRecursion (λ y. (y < suc n) × (f y ≡ true)) (if b then n ∷ [] else [])) [ true ↦ λ e. ((omega arith, e), tt) | false ↦ λ e. tt ] refl)
+
+-- the one that is alone
+pub lone-number : (f : ℕ → Bool) (n x : ℕ) → numbers_below f n ≡ x ∷ [] → (x < n) × (f x ≡ true)
+lone-number f n x e = (subst (AllByRecursion (λ y. (y < n) × (f y ≡ true))) e (numbers-all f n)).0
+
+-- ---- they fork
+
+pub fork-two : (ref : Option ValueRef) (kids : ℕ → Kid) (used : ℕ) → CanJoin ref kids used → 2 ≤ length (there kids) → CanFork ref kids used
+fork-two None kids used can two = record { stands = can.stands; fits = can.fits; shaped = let count = count-there kids in omega arith }
+fork-two (Some ref) kids used can two = record { stands = can.stands; fits = can.fits; shaped = (can.value, let count = count-there kids in omega arith) }
+
+pub fork-one : (ref : ValueRef) (kids : ℕ → Kid) (used x : ℕ) → CanJoin (Some ref) kids used → there kids ≡ x ∷ [] → CanFork (Some ref) kids used
+fork-one ref kids used x can one = record { stands = can.stands; fits = can.fits; shaped = (can.value, let count = count-there kids in let long = ap length one in omega arith) }
+
+-- ---- what they join to
+
+pub joint-none : (ref : Option ValueRef) (kids : ℕ → Kid) (used : ℕ) → there kids ≡ [] → joint ref kids used ≡ without_texts (childless ref)
+unfolding joint
+joint-none None kids used e = ap (λ (ns : List ℕ). joint_by None ns kids used) e
+joint-none (Some ref) kids used e = ap (λ (ns : List ℕ). joint_by (Some ref) ns kids used) e
+
+pub joint-lone : (kids : ℕ → Kid) (used x : ℕ) → there kids ≡ x ∷ [] → joint None kids used ≡ without_texts (lowered (x ∷ []) (kid_top (kids x)))
+unfolding joint
+joint-lone kids used x e = ap (λ (ns : List ℕ). joint_by None ns kids used) e
+
+pub joint-one : (ref : ValueRef) (kids : ℕ → Kid) (used x : ℕ) → there kids ≡ x ∷ [] → joint (Some ref) kids used ≡ branched (Some ref) kids used
+unfolding joint
+joint-one ref kids used x e = ap (λ (ns : List ℕ). joint_by (Some ref) ns kids used) e
+
+pub joint-more : (ref : Option ValueRef) (kids : ℕ → Kid) (used : ℕ) → 2 ≤ length (there kids) → joint ref kids used ≡ branched ref kids used
+unfolding joint
+joint-more ref kids used h = go ref (there kids) h
+  where
+    go : (r : Option ValueRef) (ns : List ℕ) → 2 ≤ length ns → joint_by r ns kids used ≡ branched r kids used
+    go None [] two = absurd (omega arith)
+    go None (x ∷ []) two = absurd (omega arith)
+    go None (x ∷ y ∷ left) two = refl
+    go (Some ref) [] two = absurd (omega arith)
+    go (Some ref) (x ∷ left) two = refl
+
+-- ---- their names, one after the other
+
+pub record IsNaming (whole : List Child) (nibble : ℕ) (rest : List Child) (kids : List (Option Digest)) (kept usage : ℕ) (old new : Ledger) : Type 0 where
+  pub left : rest ≡ drop nibble whole
+  pub sixteen : length kids ≡ 16
+  pub names : (y : ℕ) → y < nibble → children_in kids y ≡ kid_name (kid_at whole y)
+  pub used : usage ≡ kept + sum_below (λ x. kid_usage (kid_at whole x)) nibble
+  pub adds : Adds old new (joined_below (λ x. kid_pending (kid_at whole x)) nibble) [] 0 0
+
+pub naming-none : (whole : List Child) (kids : List (Option Digest)) (kept : ℕ) (ledger : Ledger) → length kids ≡ 16 → IsNaming whole 0 whole kids kept kept ledger ledger
+unfolding sum_below joined_below
+naming-none whole kids kept ledger sixteen = record { left = refl; sixteen = sixteen; names = λ y h. absurd (omega arith); used = omega arith; adds = adds-none ledger }
+
+sum-part : (f : ℕ → ℕ) (m n : ℕ) → m ≤ n → sum_below f m ≤ sum_below f n
+unfolding sum_below
+sum-part f m zero h = let none : m ≡ 0 = omega arith in subst (λ k. sum_below f k ≤ 0) (sym none) (omega arith)
+sum-part f m (suc n) h = elim (cases_lt m (suc n)) [
+  | inl less ↦ (let further = sum-part f m n (omega arith) in omega arith)
+  | inr most ↦ (let same : m ≡ suc n = omega arith in subst (λ k. sum_below f k ≤ sum_below f n + f n) (sym same) (omega arith))
+]
+
+module _ (whole : List Child) (nibble : ℕ) (rest : List Child) (kids : List (Option Digest)) (kept usage : ℕ) (old new : Ledger) (so_far : IsNaming whole nibble rest kids kept usage old new) (small : nibble < 16) (sixteen : length whole ≡ 16) where
+  pub naming-some : 0 < length rest
+  naming-some = let long = ap length so_far.left in let left = length-drop nibble whole in omega arith
+
+  pub naming-next : kid_at rest 0 ≡ kid_at whole nibble
+  naming-next = ap (λ (cs : List Child). kid_at cs 0) so_far.left ∙ kid_at-drop whole nibble
+
+  pub naming-stands : (ref : Option ValueRef) → CanFork ref (kid_at whole) kept → KidStands (kid_at rest 0)
+  naming-stands ref can = subst KidStands (sym naming-next) (can.stands nibble small)
+
+  pub naming-adds : (ref : Option ValueRef) → CanFork ref (kid_at whole) kept → usage + kid_usage (kid_at rest 0) < 2 ^ 64
+  naming-adds ref can =
+      let part = sum-part (λ x. kid_usage (kid_at whole x)) (nibble + 1) 16 (omega arith) in
+      let next = sum_below-more (λ x. kid_usage (kid_at whole x)) nibble in
+      let same = ap kid_usage naming-next in
+      let used = so_far.used in
+      let whole_fits = can.fits in
+      omega arith
+
+  pub naming-more : (name : Option Digest) (used : ℕ) (others : List Child) (later : Ledger) → option_map (λ d. d.0) name ≡ kid_name (kid_at rest 0) → used ≡ kid_usage (kid_at rest 0) → others ≡ drop 1 rest → Adds new later (kid_pending (kid_at rest 0)) [] 0 0
+      → IsNaming whole (nibble + 1) others (set kids nibble name) kept (usage + used) old later
+  naming-more name used others later is_name is_used is_left adds =
+      let inside : nibble < length kids = let s = so_far.sixteen in omega arith in
+      record {
+        left = is_left ∙ ap (drop 1) so_far.left ∙ drop-drop 1 nibble whole;
+        sixteen = length-set kids nibble name ∙ so_far.sixteen;
+        names = λ y h. elim (cases_lt y nibble) [
+          | inl l ↦ (let other : y ≢ nibble = omega arith in ap (option_map (λ d. d.0)) (get_or-set_other kids nibble y name None other) ∙ so_far.names y l)
+          | inr g ↦ (let same : nibble ≡ y = omega arith in
+              subst (λ k. children_in (set kids nibble name) k ≡ kid_name (kid_at whole k)) same (ap (option_map (λ d. d.0)) (get_or-set_same kids nibble name None inside) ∙ is_name ∙ ap kid_name naming-next))
+        ];
+        used = (let next = sum_below-more (λ x. kid_usage (kid_at whole x)) nibble in let same = ap kid_usage naming-next in let before_it = so_far.used in omega arith);
+        adds =
+            let both = adds-then old new later (joined_below (λ x. kid_pending (kid_at whole x)) nibble) [] 0 0 (kid_pending (kid_at rest 0)) [] 0 0 so_far.adds adds in
+            adds-same old later (joined_below (λ x. kid_pending (kid_at whole x)) nibble ++ kid_pending (kid_at rest 0)) [] (0 + 0) (0 + 0) (joined_below (λ x. kid_pending (kid_at whole x)) (nibble + 1)) [] 0 0
+            (ap (λ (k : Kid). joined_below (λ x. kid_pending (kid_at whole x)) nibble ++ kid_pending k) naming-next ∙ sym (joined_below-more (λ x. kid_pending (kid_at whole x)) nibble)) refl (omega arith) (omega arith) both;
+      }
+
+-- ---- the record of the branch
+
+children-agree : (kids others : ℕ → Option (List ℕ)) → ((x : ℕ) → x < 16 → kids x ≡ others x) → spelled_children kids ≡ spelled_children others
+unfolding spelled_children
+children-agree kids others same =
+    ap₂ (λ (bits : ℕ) (digests : List ℕ). borsh_u16 bits ++ digests)
+    (sum_below-agree (child_bit kids) (child_bit others) 16 (λ x h. ap (λ (c : Option (List ℕ)). if is_some c then 2 ^ x else 0) (same x h)))
+    (joined_below-agree (λ x. child_digest (kids x)) (λ x. child_digest (others x)) 16 (λ x h. ap child_digest (same x h)))
+
+pub spelled-agree : (ref : Option ValueRef) (kids others : ℕ → Option (List ℕ)) (used : ℕ) → ((x : ℕ) → x < 16 → kids x ≡ others x) → spelled (node.branch ref kids) used ≡ spelled (node.branch ref others) used
+unfolding spelled
+spelled-agree None kids others used same = ap (λ (bytes : List ℕ). 1 ∷ bytes ++ borsh_u64 used) (children-agree kids others same)
+spelled-agree (Some ref) kids others used same = ap (λ (bytes : List ℕ). 2 ∷ spelled_value ref ++ bytes ++ borsh_u64 used) (children-agree kids others same)
+
+count-agree : (kids others : ℕ → Option (List ℕ)) → ((x : ℕ) → x < 16 → kids x ≡ others x) → child_count kids ≡ child_count others
+count-agree kids others same = sum_below-agree (λ x. if is_some (kids x) then 1 else 0) (λ x. if is_some (others x) then 1 else 0) 16 (λ x h. ap (λ (c : Option (List ℕ)). if is_some c then 1 else 0) (same x h))
+
+shaped-agree : (ref : Option ValueRef) (kids others : ℕ → Option (List ℕ)) → ((x : ℕ) → x < 16 → kids x ≡ others x) → IsShaped (node.branch ref others) → IsShaped (node.branch ref kids)
+shaped-agree None kids others same h = let count = count-agree kids others same in omega arith
+shaped-agree (Some ref) kids others same h = (h.0, let count = count-agree kids others same in let some = h.1 in omega arith)
+
+own-branch : (ref : Option ValueRef) (kids : ℕ → Option (List ℕ)) → own_cost (node.branch ref kids) ≡ branch_cost ref
+unfolding own_cost
+own-branch None kids = refl
+own-branch (Some ref) kids = refl
+
+module _ (ref : Option ValueRef) (whole : List Child) (nibble : ℕ) (rest : List Child) (kids : List (Option Digest)) (kept usage : ℕ) (old new : Ledger) (all : IsNaming whole nibble rest kids kept usage old new) (done : nibble ≡ 16) (can : CanFork ref (kid_at whole) kept) where
+  all_names : (x : ℕ) → x < 16 → children_in kids x ≡ kid_name (kid_at whole x)
+  all_names x h = all.names x (omega arith)
+
+  all_used : usage ≡ kept + sum_below (λ x. kid_usage (kid_at whole x)) 16
+  all_used = all.used ∙ ap (λ n. kept + sum_below (λ x. kid_usage (kid_at whole x)) n) done
+
+  pub end-shaped : IsShaped (node.branch ref (children_in kids))
+  end-shaped = shaped-agree ref (children_in kids) (λ x. kid_name (kid_at whole x)) all_names can.shaped
+
+  end-cost : own_cost (node.branch ref (children_in kids)) + usage ≡ branch_used ref (kid_at whole) kept
+  end-cost = let own = own-branch ref (children_in kids) in let used = all_used in omega arith
+
+  pub end-fits : own_cost (node.branch ref (children_in kids)) + usage < 2 ^ 64
+  end-fits = let cost = end-cost in let fits = can.fits in omega arith
+
+  end-text : (closed : Closed) → IsRecord closed (node.branch ref (children_in kids)) (own_cost (node.branch ref (children_in kids)) + usage) → closed.text ≡ branch_text ref (kid_at whole) kept
+  end-text closed is =
+      is.text ∙ ap (λ n. spelled (node.branch ref (children_in kids)) n) end-cost
+      ∙ spelled-agree ref (children_in kids) (λ x. kid_name (kid_at whole x)) (branch_used ref (kid_at whole) kept) all_names
+
+  pub end-top : (closed : Closed) → IsRecord closed (node.branch ref (children_in kids)) (own_cost (node.branch ref (children_in kids)) + usage) → branch closed.digest.0 closed.usage ≡ (branched ref (kid_at whole) kept).top
+  end-top closed is = ap₂ branch (is.digest ∙ ap sha256 (end-text closed is)) (is.usage ∙ end-cost)
+
+  pub end-adds : (closed : Closed) (later : Ledger) → IsRecord closed (node.branch ref (children_in kids)) (own_cost (node.branch ref (children_in kids)) + usage) → Adds new later (closed.text ∷ []) [] 0 0 → Adds old later (branched ref (kid_at whole) kept).made [] 0 0
+  end-adds closed later is adds =
+      let names = joined_below (λ x. kid_pending (kid_at whole x)) in
+      adds-same old later (names nibble ++ closed.text ∷ []) [] (0 + 0) (0 + 0) (names 16 ++ branch_text ref (kid_at whole) kept ∷ []) [] 0 0
+      (ap₂ (λ (n : ℕ) (t : List ℕ). names n ++ t ∷ []) done (end-text closed is)) refl (omega arith) (omega arith)
+      (adds-then old new later (names nibble) [] 0 0 (closed.text ∷ []) [] 0 0 all.adds adds)

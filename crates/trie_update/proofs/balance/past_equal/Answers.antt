@@ -1,0 +1,10 @@
+use Rattle.std.proofs.Common.{is_le, ◌≡◌, false, [], get_or, subst}
+use Rattle.std.proofs.lemmas.List.{get_or_default}
+use Rattle.trie_update.specs.Balances.{by_bytes}
+use Rattle.trie_update.proofs.Tallies.{parted-upto, point-found, not_up_to-from_test}
+use Rattle.trie_update.proofs.balance.past_equal.Goals as goal
+
+pub returns-then-gt-clause-parted : goal.returns-then-gt-clause-parted
+returns-then-gt-clause-parted c =
+    point-found (λ d. is_le (by_bytes d c.args.digest.now)) c.args.digests.now c.loop-place.place (parted-upto c.args.digests.now c.args.digest.now c.requires.order) c.loop-place.invariant
+    (λ within d. subst (λ x. is_le (by_bytes x c.args.digest.now) ≡ false) (get_or_default c.args.digests.now c.loop-place.place (record { 0 = [] }) d within) (not_up_to-from_test (get_or c.args.digests.now c.loop-place.place (record { 0 = [] })) c.args.digest.now c.if-gt.ensures))

@@ -1,0 +1,20 @@
+use Rattle.std.proofs.Common.{◌<◌, [], ◌∷◌, length, ap, sym, subst, ◌∙◌, arith}
+use Rattle.std.proofs.lemmas.Result.{IfOk-weaker}
+use Rattle.update_model.specs.Joins.{kid_top}
+use Rattle.update_model.specs.Tops.{lowered}
+use Rattle.trie_update.specs.Subs.{IsKnown, kid_of}
+use Rattle.trie_update.proofs.Children.{kid_at-item}
+use Rattle.trie_update.proofs.joining.lone.Goals as goal
+
+pub unreachable-requires : goal.unreachable-requires
+unreachable-requires c =
+    let inside : c.args.nibble < length c.args.children.items = (let small = c.requires.inside in let all = c.requires.sixteen in omega arith) in
+    let kid = kid_at-item c.args.children.items c.args.nibble c.swap_remove.result inside c.swap_remove.ensures.value ∙ ap kid_of c.in-Named.is in
+    subst IsKnown kid c.requires.known
+
+pub returns-clause-top : goal.returns-clause-top
+unfolding kid_top
+returns-clause-top c =
+    let inside : c.args.nibble < length c.args.children.items = (let small = c.requires.inside in let all = c.requires.sixteen in omega arith) in
+    let kid = kid_at-item c.args.children.items c.args.nibble c.swap_remove.result inside c.swap_remove.ensures.value ∙ ap kid_of c.in-Known.is in
+    IfOk-weaker c.under.result _ _ (λ sub e. e ∙ sym (ap (λ k. lowered (c.args.nibble ∷ []) (kid_top k)) kid)) c.under.ensures.top

@@ -1,0 +1,1050 @@
+use Rattle.std.proofs.Common.{rules, ◌≡◌, ◌≤◌, ◌<◌, ◌+◌, ℕ, option_map, List, Ok, Err, refl, ap, sym, subst, ◌∙◌, arith, [], length, false, Result, ◌-◌}
+use Rattle.std.specs.Prelude.{IsErrAnd, true}
+use Rattle.change_model.specs.Visits.{visits_below, before, closed, visits_at, merge_visits, merge_usage}
+use Rattle.node_codec.specs.Meanings.{value_of, children_in}
+use Rattle.update_model.specs.Updates.{ref_after, laid, updated, Outcome, fork_outcome, merged_kids, merged_lost}
+use Rattle.trie_update.specs.declared.joining.Left.{Left}
+use Rattle.trie_update.specs.declared.joining.Child.{Child}
+use Rattle.trie_update.specs.declared.errors.UpdateError.TheVariants.{NoMemory, Usage}
+use Rattle.trie_update.specs.ChangesAt.{changes_at}
+use Rattle.trie_update.specs.Places.{place_behind, place_visits, place_of, old_past, seen_past, top_visits, top_stated, TopKeeps}
+use Rattle.trie_update.specs.Placed.{run_at, branch_inside}
+use Rattle.trie_update.proofs.Carrying.{carries-passed, opens-changed, visit-stopped, carries-none, carries-ok, carries-stopped, carries-then, carries-less, carries-closed, carries-end, carries-late}
+use Rattle.trie_update.proofs.Turning.{IsGathered, changes-deep, run-short, end-carries, end-parted, gathered-none, length-changes_at, turn-changes, turn-fewer, turn-more, turn-room, turn-short, turn-stopped}
+use Rattle.trie_update.specs.Carries.{Carries}
+use Rattle.trie_update.proofs.PlaceFacts.{untouched-visits}
+use Rattle.trie_update.proofs.FormerCalls.{child-untouched, empty-changes, some-changes, known-touched, named-touched, known-keeps, named-keeps, carries-placed, child-placed, changes-some}
+use Rattle.visit_model.specs.Seen.{seen_at, stated_usage, Seen, seen_child}
+use Rattle.trie_update.specs.declared.updating.Placed.{Placed}
+use Rattle.std.proofs.lemmas.Result.{IfOk-weaker}
+use Rattle.batch_model.specs.Changes.{Change, most_changes}
+use Rattle.trie_update.proofs.PathCalls.{if_ok-both, laid-fork, led-keeps, led-none, led-outcome, led-some, led-stated, led-visits, path-fits, path-keeps, path-placed, path-visits, reaches-begin, some-lent}
+use Rattle.trie_update.proofs.Below.{below-changes_at}
+use Rattle.trie_update.proofs.ForkCalls.{places-visits, fork-end-can, fork-end-placed, fork-end-keeps}
+use Rattle.byte_model.specs.PackedPath.{longest_path}
+use Rattle.update_model.specs.Joins.{joint}
+use Rattle.trie_shape.specs.declared.sub.Sub.{Sub}
+use Rattle.trie_update.specs.declared.errors.UpdateError.{UpdateError}
+use Rattle.trie_update.specs.Adds.{Adds}
+use Rattle.trie_update.specs.Merges.{CanSettle, MergedStands, lone_named, seen_kids}
+use Rattle.trie_update.specs.Subs.{kid_at, top_of_sub}
+use Rattle.trie_update.proofs.BranchCalls.{branch-carries, branch-keeps, branch-placed, branch-places, branch-settles, branch-stopped, small-mapped}
+use Rattle.trie_update.specs.declared.old.Old.TheVariants as old
+use Rattle.trie_update.proofs.Digests.{lent-deep, lent-some, lose-named, lose-room, old-carries, old-keeps, old-placed, opened-short, opens-first, reads-extension, reads-leaf, value-small, visited-carries, visited-children, visited-keeps, visited-placed}
+use Rattle.trie_update.proofs.SeenVisits.{SeesBranch, SeesCopy, sees-visited}
+use Rattle.trie_update.proofs.updating.+update.Goals as goal
+
+pub at_branch-returns-in_err-left-clause-carries : goal.at_branch-returns-in_err-left-clause-carries
+at_branch-returns-in_err-left-clause-carries g t c = λ children are.
+    let store = g.T.Texts.store in
+    let old = c.args.store.now in
+    let table = store.texts old in
+    let mid = c.at_nibbles.new.store in
+    let changes = c.args.changes.now in
+    let cs = changes_at c.args.depth changes in
+    let ref = option_map value_of c.args.value in
+    let names = children_in c.args.kids.now in
+    let below_it = below-changes_at c.args.depth changes c.requires.changes in
+    let more = changes-some c.args.depth changes c.requires.some in
+    carries-passed store {X = Placed} {Y = Placed} old mid (branch_inside c.args.digest.now.0 c.args.stated ref children cs) c.in_err-left.field-0.0 c.from_residual.result c.from_residual.ensures.1
+    (branch-stopped table c.args.depth ref names children are cs below_it more _ (branch-places table c.args.depth _) {X = Left × ℕ} {Y = Placed} store old mid c.args.digest.now.0 c.args.stated c.in_err-left.field-0.0 c.in_err-left.ensures.carries)
+
+pub at_branch-settle-requires-clause-joins : goal.at_branch-settle-requires-clause-joins
+at_branch-settle-requires-clause-joins g t c =
+    let store = g.T.Texts.store in
+    let old = c.args.store.now in
+    let table = store.texts old in
+    let mid = c.at_nibbles.new.store in
+    let changes = c.args.changes.now in
+    let cs = changes_at c.args.depth changes in
+    let ref = option_map value_of c.args.value in
+    let names = children_in c.args.kids.now in
+    let below_it = below-changes_at c.args.depth changes c.requires.changes in
+    let more = changes-some c.args.depth changes c.requires.some in
+    let long = length-changes_at c.args.depth changes in
+    let few : length cs ≤ most_changes = (let f = c.requires.few in omega arith) in
+    let short = small-mapped c.args.value c.requires.small in
+    let left = c.in_ok-left.left in
+    let told = c.in_ok-left.below in
+    let value = option_map value_of left.value in
+    let kids = kid_at left.children.items in
+    let above = c.saturating_add-above.result in
+    let texts = g.met.T.Texts.alike_texts old mid c.in_ok-left.ensures.carries.left.same in
+    let children : ℕ → Seen = λ x. seen_child (seen_at table (c.args.depth + 1) false) (names x) in
+    subst (λ tb. CanSettle tb (c.args.depth + 1) value kids c.args.stated above) texts (branch-settles table c.args.depth ref names children (λ x small. refl) cs below_it more _ (branch-places table c.args.depth _) c.args.ledger.now c.at_nibbles.new.ledger left told c.in_ok-left.ensures.parted c.args.own above c.args.stated c.requires.own c.saturating_add-above.ensures c.requires.most short few)
+
+pub at_branch-returns-in_err-sub-clause-carries : goal.at_branch-returns-in_err-sub-clause-carries
+at_branch-returns-in_err-sub-clause-carries g t c = λ children are.
+    let store = g.T.Texts.store in
+    let old = c.args.store.now in
+    let table = store.texts old in
+    let mid = c.at_nibbles.new.store in
+    let changes = c.args.changes.now in
+    let cs = changes_at c.args.depth changes in
+    let ref = option_map value_of c.args.value in
+    let names = children_in c.args.kids.now in
+    let below_it = below-changes_at c.args.depth changes c.requires.changes in
+    let more = changes-some c.args.depth changes c.requires.some in
+    let long = length-changes_at c.args.depth changes in
+    let few : length cs ≤ most_changes = (let f = c.requires.few in omega arith) in
+    let short = small-mapped c.args.value c.requires.small in
+    let left = c.in_ok-left.left in
+    let told = c.in_ok-left.below in
+    let value = option_map value_of left.value in
+    let kids = kid_at left.children.items in
+    let above = c.saturating_add-above.result in
+    let texts = g.met.T.Texts.alike_texts old mid c.in_ok-left.ensures.carries.left.same in
+    let new = c.settle.new.store in
+    let settled = λ (result : Result Sub UpdateError) (h : Carries {X = Sub} store mid new (before (merge_visits (seen_kids (store.texts mid) (c.args.depth + 1) kids) (lone_named value kids)) (closed c.args.digest.now.0 c.args.stated (above + merge_usage (seen_kids (store.texts mid) (c.args.depth + 1) kids) (lone_named value kids)))) result).
+    subst (λ tb. Carries {X = Sub} store mid new (before (merge_visits (seen_kids tb (c.args.depth + 1) kids) (lone_named value kids)) (closed c.args.digest.now.0 c.args.stated (above + merge_usage (seen_kids tb (c.args.depth + 1) kids) (lone_named value kids)))) result) (sym texts) h in
+    carries-passed store {X = Sub} {Y = Placed} old new (branch_inside c.args.digest.now.0 c.args.stated ref children cs) c.in_err-sub.field-0.0 c.from_residual-in_err-sub.result c.from_residual-in_err-sub.ensures.1
+    (branch-carries table c.args.depth ref names children are cs below_it more _ (branch-places table c.args.depth _) c.args.ledger.now c.at_nibbles.new.ledger left told c.in_ok-left.ensures.parted c.args.own above c.args.stated c.requires.own c.saturating_add-above.ensures c.requires.most short few {Y = Sub} store g.met.T.Texts.alike_onward old mid new c.args.digest.now.0 (Err c.in_err-sub.field-0.0) c.in_ok-left.ensures.carries (settled (Err c.in_err-sub.field-0.0) c.in_err-sub.ensures.carries))
+
+pub at_branch-returns-clause-carries : goal.at_branch-returns-clause-carries
+at_branch-returns-clause-carries g t c = λ children are.
+    let store = g.T.Texts.store in
+    let old = c.args.store.now in
+    let table = store.texts old in
+    let mid = c.at_nibbles.new.store in
+    let changes = c.args.changes.now in
+    let cs = changes_at c.args.depth changes in
+    let ref = option_map value_of c.args.value in
+    let names = children_in c.args.kids.now in
+    let below_it = below-changes_at c.args.depth changes c.requires.changes in
+    let more = changes-some c.args.depth changes c.requires.some in
+    let long = length-changes_at c.args.depth changes in
+    let few : length cs ≤ most_changes = (let f = c.requires.few in omega arith) in
+    let short = small-mapped c.args.value c.requires.small in
+    let left = c.in_ok-left.left in
+    let told = c.in_ok-left.below in
+    let value = option_map value_of left.value in
+    let kids = kid_at left.children.items in
+    let above = c.saturating_add-above.result in
+    let texts = g.met.T.Texts.alike_texts old mid c.in_ok-left.ensures.carries.left.same in
+    let new = c.settle.new.store in
+    let settled = λ (result : Result Sub UpdateError) (h : Carries {X = Sub} store mid new (before (merge_visits (seen_kids (store.texts mid) (c.args.depth + 1) kids) (lone_named value kids)) (closed c.args.digest.now.0 c.args.stated (above + merge_usage (seen_kids (store.texts mid) (c.args.depth + 1) kids) (lone_named value kids)))) result).
+    subst (λ tb. Carries {X = Sub} store mid new (before (merge_visits (seen_kids tb (c.args.depth + 1) kids) (lone_named value kids)) (closed c.args.digest.now.0 c.args.stated (above + merge_usage (seen_kids tb (c.args.depth + 1) kids) (lone_named value kids)))) result) (sym texts) h in
+    let whole = branch-carries table c.args.depth ref names children are cs below_it more _ (branch-places table c.args.depth _) c.args.ledger.now c.at_nibbles.new.ledger left told c.in_ok-left.ensures.parted c.args.own above c.args.stated c.requires.own c.saturating_add-above.ensures c.requires.most short few {Y = Sub} store g.met.T.Texts.alike_onward old mid new c.args.digest.now.0 (Ok c.in_ok-sub.sub) c.in_ok-left.ensures.carries (settled (Ok c.in_ok-sub.sub) c.in_ok-sub.ensures.carries) in
+    carries-ok store {X = Sub} {Y = Placed} old new (branch_inside c.args.digest.now.0 c.args.stated ref children cs) c.in_ok-sub.sub _ whole
+
+pub at_branch-returns-clause-placed : goal.at_branch-returns-clause-placed
+at_branch-returns-clause-placed g t c = λ children are.
+    let store = g.T.Texts.store in
+    let old = c.args.store.now in
+    let table = store.texts old in
+    let mid = c.at_nibbles.new.store in
+    let changes = c.args.changes.now in
+    let cs = changes_at c.args.depth changes in
+    let ref = option_map value_of c.args.value in
+    let names = children_in c.args.kids.now in
+    let below_it = below-changes_at c.args.depth changes c.requires.changes in
+    let more = changes-some c.args.depth changes c.requires.some in
+    let long = length-changes_at c.args.depth changes in
+    let few : length cs ≤ most_changes = (let f = c.requires.few in omega arith) in
+    let short = small-mapped c.args.value c.requires.small in
+    let left = c.in_ok-left.left in
+    let told = c.in_ok-left.below in
+    let value = option_map value_of left.value in
+    let kids = kid_at left.children.items in
+    let above = c.saturating_add-above.result in
+    let texts = g.met.T.Texts.alike_texts old mid c.in_ok-left.ensures.carries.left.same in
+    let new = c.settle.new.store in
+    let settled = λ (result : Result Sub UpdateError) (h : Carries {X = Sub} store mid new (before (merge_visits (seen_kids (store.texts mid) (c.args.depth + 1) kids) (lone_named value kids)) (closed c.args.digest.now.0 c.args.stated (above + merge_usage (seen_kids (store.texts mid) (c.args.depth + 1) kids) (lone_named value kids)))) result).
+    subst (λ tb. Carries {X = Sub} store mid new (before (merge_visits (seen_kids tb (c.args.depth + 1) kids) (lone_named value kids)) (closed c.args.digest.now.0 c.args.stated (above + merge_usage (seen_kids tb (c.args.depth + 1) kids) (lone_named value kids)))) result) (sym texts) h in
+    let whole = branch-carries table c.args.depth ref names children are cs below_it more _ (branch-places table c.args.depth _) c.args.ledger.now c.at_nibbles.new.ledger left told c.in_ok-left.ensures.parted c.args.own above c.args.stated c.requires.own c.saturating_add-above.ensures c.requires.most short few {Y = Sub} store g.met.T.Texts.alike_onward old mid new c.args.digest.now.0 (Ok c.in_ok-sub.sub) c.in_ok-left.ensures.carries (settled (Ok c.in_ok-sub.sub) c.in_ok-sub.ensures.carries) in
+    let top = subst (λ tb. top_of_sub c.in_ok-sub.sub ≡ (joint value (merged_kids (lone_named value kids) (seen_kids tb (c.args.depth + 1) kids) kids) (c.args.stated - (above + merge_usage (seen_kids tb (c.args.depth + 1) kids) (lone_named value kids)))).top) (sym texts) c.in_ok-sub.ensures.top in
+    let adds = subst (λ tb. Adds c.at_nibbles.new.ledger c.settle.new.ledger (joint value (merged_kids (lone_named value kids) (seen_kids tb (c.args.depth + 1) kids) kids) (c.args.stated - (above + merge_usage (seen_kids tb (c.args.depth + 1) kids) (lone_named value kids)))).made (merged_lost (lone_named value kids) (seen_kids tb (c.args.depth + 1) kids)) 0 0) (sym texts) c.in_ok-sub.ensures.adds in
+    branch-placed table c.args.depth ref names children are cs below_it more _ (branch-places table c.args.depth _) c.args.ledger.now c.at_nibbles.new.ledger left told c.in_ok-left.ensures.parted c.args.own above c.args.stated c.requires.own c.saturating_add-above.ensures c.requires.most short few c.args.digest.now.0 whole.answer (length changes) c.settle.new.ledger (record { sub = c.in_ok-sub.sub; stated = c.args.stated }) long refl top adds
+
+pub at_branch-returns-clause-keeps : goal.at_branch-returns-clause-keeps
+at_branch-returns-clause-keeps g t c = λ children are.
+    let store = g.T.Texts.store in
+    let old = c.args.store.now in
+    let table = store.texts old in
+    let mid = c.at_nibbles.new.store in
+    let changes = c.args.changes.now in
+    let cs = changes_at c.args.depth changes in
+    let ref = option_map value_of c.args.value in
+    let names = children_in c.args.kids.now in
+    let below_it = below-changes_at c.args.depth changes c.requires.changes in
+    let more = changes-some c.args.depth changes c.requires.some in
+    let long = length-changes_at c.args.depth changes in
+    let few : length cs ≤ most_changes = (let f = c.requires.few in omega arith) in
+    let short = small-mapped c.args.value c.requires.small in
+    let left = c.in_ok-left.left in
+    let told = c.in_ok-left.below in
+    let value = option_map value_of left.value in
+    let kids = kid_at left.children.items in
+    let above = c.saturating_add-above.result in
+    let texts = g.met.T.Texts.alike_texts old mid c.in_ok-left.ensures.carries.left.same in
+    let new = c.settle.new.store in
+    let settled = λ (result : Result Sub UpdateError) (h : Carries {X = Sub} store mid new (before (merge_visits (seen_kids (store.texts mid) (c.args.depth + 1) kids) (lone_named value kids)) (closed c.args.digest.now.0 c.args.stated (above + merge_usage (seen_kids (store.texts mid) (c.args.depth + 1) kids) (lone_named value kids)))) result).
+    subst (λ tb. Carries {X = Sub} store mid new (before (merge_visits (seen_kids tb (c.args.depth + 1) kids) (lone_named value kids)) (closed c.args.digest.now.0 c.args.stated (above + merge_usage (seen_kids tb (c.args.depth + 1) kids) (lone_named value kids)))) result) (sym texts) h in
+    let whole = branch-carries table c.args.depth ref names children are cs below_it more _ (branch-places table c.args.depth _) c.args.ledger.now c.at_nibbles.new.ledger left told c.in_ok-left.ensures.parted c.args.own above c.args.stated c.requires.own c.saturating_add-above.ensures c.requires.most short few {Y = Sub} store g.met.T.Texts.alike_onward old mid new c.args.digest.now.0 (Ok c.in_ok-sub.sub) c.in_ok-left.ensures.carries (settled (Ok c.in_ok-sub.sub) c.in_ok-sub.ensures.carries) in
+    let deep : c.args.depth ≤ longest_path = (let d = c.requires.deep in omega arith) in
+    let stands = subst (λ tb. MergedStands (c.args.depth + 1) (lone_named value kids) (seen_kids tb (c.args.depth + 1) kids)) (sym texts) c.in_ok-sub.ensures.stands in
+    branch-keeps table c.args.depth ref names children are cs below_it more _ (branch-places table c.args.depth _) c.args.ledger.now c.at_nibbles.new.ledger left told c.in_ok-left.ensures.parted c.args.own above c.args.stated c.requires.own c.saturating_add-above.ensures c.requires.most short few c.args.digest.now.0 whole.answer deep stands
+
+pub at_digest-returns-in_err-node-clause-carries : goal.at_digest-returns-in_err-node-clause-carries
+at_digest-returns-in_err-node-clause-carries g t c =
+    let store = g.T.Texts.store in
+    let first = c.args.store.now in
+    let mid = c.visit.new.store in
+    let table = store.texts first in
+    let depth = c.args.depth in
+    let after = c.args.after_extension in
+    let digest = c.args.digest.now in
+    let cs = changes_at depth c.args.changes.now in
+    let deep = lent-deep depth c.args.changes.now c.requires.changes c.requires.some in
+    let error = c.in_err-node.field-0.0 in
+    carries-passed store {X = Placed} {Y = Placed} first mid (visits_at (seen_at table depth after digest.0) cs) error c.from_residual.result c.from_residual.ensures.1
+    (visit-stopped store first mid table digest depth after deep (λ s. visits_at s cs) (opens-changed cs) {X = Placed} error c.in_err-node.ensures.answer c.in_err-node.ensures.left)
+
+pub at_digest-returns-in_err-lose-clause-carries : goal.at_digest-returns-in_err-lose-clause-carries
+at_digest-returns-in_err-lose-clause-carries g t c =
+    let store = g.T.Texts.store in
+    let first = c.args.store.now in
+    let mid = c.visit.new.store in
+    let table = store.texts first in
+    let depth = c.args.depth in
+    let after = c.args.after_extension in
+    let digest = c.args.digest.now in
+    let cs = changes_at depth c.args.changes.now in
+    let deep = lent-deep depth c.args.changes.now c.requires.changes c.requires.some in
+    let visited = c.in_ok-node.field-0 in
+    let left = c.in_ok-node.ensures.left in
+    let sees = sees-visited table depth after digest visited deep c.in_ok-node.ensures.answer in
+    let onward = g.met.T.Texts.alike_onward in
+    let same = g.met.T.Texts.alike_texts first mid left.same in
+    carries-passed store {X = Placed} {Y = Placed} first mid (visits_at (seen_at table depth after digest.0) cs) NoMemory c.from_residual-in_err-lose.result (subst (λ e. IsErrAnd c.from_residual-in_err-lose.result (λ given. given ≡ e)) c.in_err-lose.ensures.error c.from_residual-in_err-lose.ensures.1)
+    (opened-short store onward first mid mid same depth after digest visited left cs (opens-first table depth after digest visited cs visited.node sees))
+
+pub at_digest-at_old-requires : goal.at_digest-at_old-requires
+at_digest-at_old-requires g t c =
+    let store = g.T.Texts.store in
+    let first = c.args.store.now in
+    let mid = c.visit.new.store in
+    let table = store.texts first in
+    let depth = c.args.depth in
+    let after = c.args.after_extension in
+    let digest = c.args.digest.now in
+    let cs = changes_at depth c.args.changes.now in
+    let deep = lent-deep depth c.args.changes.now c.requires.changes c.requires.some in
+    let visited = c.in_ok-node.field-0 in
+    let left = c.in_ok-node.ensures.left in
+    let sees = sees-visited table depth after digest visited deep c.in_ok-node.ensures.answer in
+    let here = subst (SeesCopy table depth after digest visited) c.in-Leaf.is sees in
+    let o = old.Leaf c.as_slice.result c.in-Leaf.value in
+    let reads = reads-leaf table depth after digest visited c.as_slice.result c.in-Leaf.path c.in-Leaf.value c.as_slice.ensures here in
+    let loses = c.in_ok-lose.ensures.loses in
+    λ κs h. (search rules, (h, (c.requires.changes, (c.requires.some, (c.requires.few, (lose-room c.args.ledger.now c.lose.new.self digest _ loses c.requires.room, (lose-named c.args.ledger.now c.lose.new.self digest loses c.requires.named, (reads.reads.fits, reads.most))))))))
+
+pub at_digest-at_old-requires-in-Extension : goal.at_digest-at_old-requires-in-Extension
+at_digest-at_old-requires-in-Extension g t c =
+    let store = g.T.Texts.store in
+    let first = c.args.store.now in
+    let mid = c.visit.new.store in
+    let table = store.texts first in
+    let depth = c.args.depth in
+    let after = c.args.after_extension in
+    let digest = c.args.digest.now in
+    let cs = changes_at depth c.args.changes.now in
+    let deep = lent-deep depth c.args.changes.now c.requires.changes c.requires.some in
+    let visited = c.in_ok-node.field-0 in
+    let left = c.in_ok-node.ensures.left in
+    let sees = sees-visited table depth after digest visited deep c.in_ok-node.ensures.answer in
+    let here = subst (SeesCopy table depth after digest visited) c.in-Extension.is sees in
+    let o = old.Extension c.as_slice-in-Extension.result c.in-Extension.child c.saturating_sub.result in
+    let reads = reads-extension table depth after digest visited c.as_slice-in-Extension.result c.in-Extension.path c.in-Extension.child c.saturating_sub.result c.as_slice-in-Extension.ensures c.saturating_sub.ensures here in
+    let loses = c.in_ok-lose.ensures.loses in
+    λ κs h. (search rules, (h, (c.requires.changes, (c.requires.some, (c.requires.few, (lose-room c.args.ledger.now c.lose.new.self digest _ loses c.requires.room, (lose-named c.args.ledger.now c.lose.new.self digest loses c.requires.named, (reads.reads.fits, reads.most))))))))
+
+pub at_digest-at_branch-requires : goal.at_digest-at_branch-requires
+at_digest-at_branch-requires g t c =
+    let store = g.T.Texts.store in
+    let first = c.args.store.now in
+    let mid = c.visit.new.store in
+    let table = store.texts first in
+    let depth = c.args.depth in
+    let after = c.args.after_extension in
+    let digest = c.args.digest.now in
+    let cs = changes_at depth c.args.changes.now in
+    let deep = lent-deep depth c.args.changes.now c.requires.changes c.requires.some in
+    let visited = c.in_ok-node.field-0 in
+    let left = c.in_ok-node.ensures.left in
+    let sees = sees-visited table depth after digest visited deep c.in_ok-node.ensures.answer in
+    let ref = option_map value_of c.in-Branch.value in
+    let kids = children_in c.deref.result.now in
+    let here = subst (λ k. SeesBranch table depth after digest visited ref (children_in k)) (sym c.deref.ensures) (subst (SeesCopy table depth after digest visited) c.in-Branch.is sees) in
+    let loses = c.in_ok-lose.ensures.loses in
+    λ κs h. (search rules, (h, (c.requires.changes, (c.requires.some, (c.requires.few, (lose-room c.args.ledger.now c.lose.new.self digest _ loses c.requires.room, (lose-named c.args.ledger.now c.lose.new.self digest loses c.requires.named, (here.room, (here.most, (here.own, value-small c.in-Branch.value here.small))))))))))
+
+pub at_digest-returns-in-Leaf-clause-carries : goal.at_digest-returns-in-Leaf-clause-carries
+at_digest-returns-in-Leaf-clause-carries g t c =
+    let store = g.T.Texts.store in
+    let first = c.args.store.now in
+    let mid = c.visit.new.store in
+    let table = store.texts first in
+    let depth = c.args.depth in
+    let after = c.args.after_extension in
+    let digest = c.args.digest.now in
+    let cs = changes_at depth c.args.changes.now in
+    let deep = lent-deep depth c.args.changes.now c.requires.changes c.requires.some in
+    let visited = c.in_ok-node.field-0 in
+    let left = c.in_ok-node.ensures.left in
+    let sees = sees-visited table depth after digest visited deep c.in_ok-node.ensures.answer in
+    let onward = g.met.T.Texts.alike_onward in
+    let same = g.met.T.Texts.alike_texts first mid left.same in
+    let here = subst (SeesCopy table depth after digest visited) c.in-Leaf.is sees in
+    let o = old.Leaf c.as_slice.result c.in-Leaf.value in
+    let reads = reads-leaf table depth after digest visited c.as_slice.result c.in-Leaf.path c.in-Leaf.value c.as_slice.ensures here in
+    let new = c.at_old.new.store in
+    let result = c.at_old.result in
+    old-carries store onward first mid new same depth after digest visited left o reads cs result c.at_old.ensures.carries
+
+pub at_digest-returns-in-Leaf-clause-placed : goal.at_digest-returns-in-Leaf-clause-placed
+at_digest-returns-in-Leaf-clause-placed g t c =
+    let store = g.T.Texts.store in
+    let first = c.args.store.now in
+    let mid = c.visit.new.store in
+    let table = store.texts first in
+    let depth = c.args.depth in
+    let after = c.args.after_extension in
+    let digest = c.args.digest.now in
+    let cs = changes_at depth c.args.changes.now in
+    let deep = lent-deep depth c.args.changes.now c.requires.changes c.requires.some in
+    let visited = c.in_ok-node.field-0 in
+    let left = c.in_ok-node.ensures.left in
+    let sees = sees-visited table depth after digest visited deep c.in_ok-node.ensures.answer in
+    let onward = g.met.T.Texts.alike_onward in
+    let same = g.met.T.Texts.alike_texts first mid left.same in
+    let here = subst (SeesCopy table depth after digest visited) c.in-Leaf.is sees in
+    let o = old.Leaf c.as_slice.result c.in-Leaf.value in
+    let reads = reads-leaf table depth after digest visited c.as_slice.result c.in-Leaf.path c.in-Leaf.value c.as_slice.ensures here in
+    let new = c.at_old.new.store in
+    let result = c.at_old.result in
+    old-placed store onward first mid new same depth after digest visited left o reads cs result c.args.ledger.now c.lose.new.self c.at_old.new.ledger _ (lent-some depth c.args.changes.now c.requires.some) c.in_ok-lose.ensures.loses c.at_old.ensures.placed
+
+pub at_digest-returns-in-Leaf-clause-keeps : goal.at_digest-returns-in-Leaf-clause-keeps
+at_digest-returns-in-Leaf-clause-keeps g t c =
+    let store = g.T.Texts.store in
+    let first = c.args.store.now in
+    let mid = c.visit.new.store in
+    let table = store.texts first in
+    let depth = c.args.depth in
+    let after = c.args.after_extension in
+    let digest = c.args.digest.now in
+    let cs = changes_at depth c.args.changes.now in
+    let deep = lent-deep depth c.args.changes.now c.requires.changes c.requires.some in
+    let visited = c.in_ok-node.field-0 in
+    let left = c.in_ok-node.ensures.left in
+    let sees = sees-visited table depth after digest visited deep c.in_ok-node.ensures.answer in
+    let onward = g.met.T.Texts.alike_onward in
+    let same = g.met.T.Texts.alike_texts first mid left.same in
+    let here = subst (SeesCopy table depth after digest visited) c.in-Leaf.is sees in
+    let o = old.Leaf c.as_slice.result c.in-Leaf.value in
+    let reads = reads-leaf table depth after digest visited c.as_slice.result c.in-Leaf.path c.in-Leaf.value c.as_slice.ensures here in
+    let new = c.at_old.new.store in
+    let result = c.at_old.result in
+    let carries = old-carries store onward first mid new same depth after digest visited left o reads cs result c.at_old.ensures.carries in
+    old-keeps store onward first mid new same depth after digest visited left o reads cs (below-changes_at depth c.args.changes.now c.requires.changes) (lent-some depth c.args.changes.now c.requires.some) result carries c.at_old.ensures.keeps
+
+pub at_digest-returns-in-Extension-clause-carries : goal.at_digest-returns-in-Extension-clause-carries
+at_digest-returns-in-Extension-clause-carries g t c =
+    let store = g.T.Texts.store in
+    let first = c.args.store.now in
+    let mid = c.visit.new.store in
+    let table = store.texts first in
+    let depth = c.args.depth in
+    let after = c.args.after_extension in
+    let digest = c.args.digest.now in
+    let cs = changes_at depth c.args.changes.now in
+    let deep = lent-deep depth c.args.changes.now c.requires.changes c.requires.some in
+    let visited = c.in_ok-node.field-0 in
+    let left = c.in_ok-node.ensures.left in
+    let sees = sees-visited table depth after digest visited deep c.in_ok-node.ensures.answer in
+    let onward = g.met.T.Texts.alike_onward in
+    let same = g.met.T.Texts.alike_texts first mid left.same in
+    let here = subst (SeesCopy table depth after digest visited) c.in-Extension.is sees in
+    let o = old.Extension c.as_slice-in-Extension.result c.in-Extension.child c.saturating_sub.result in
+    let reads = reads-extension table depth after digest visited c.as_slice-in-Extension.result c.in-Extension.path c.in-Extension.child c.saturating_sub.result c.as_slice-in-Extension.ensures c.saturating_sub.ensures here in
+    let new = c.at_old-in-Extension.new.store in
+    let result = c.at_old-in-Extension.result in
+    old-carries store onward first mid new same depth after digest visited left o reads cs result c.at_old-in-Extension.ensures.carries
+
+pub at_digest-returns-in-Extension-clause-placed : goal.at_digest-returns-in-Extension-clause-placed
+at_digest-returns-in-Extension-clause-placed g t c =
+    let store = g.T.Texts.store in
+    let first = c.args.store.now in
+    let mid = c.visit.new.store in
+    let table = store.texts first in
+    let depth = c.args.depth in
+    let after = c.args.after_extension in
+    let digest = c.args.digest.now in
+    let cs = changes_at depth c.args.changes.now in
+    let deep = lent-deep depth c.args.changes.now c.requires.changes c.requires.some in
+    let visited = c.in_ok-node.field-0 in
+    let left = c.in_ok-node.ensures.left in
+    let sees = sees-visited table depth after digest visited deep c.in_ok-node.ensures.answer in
+    let onward = g.met.T.Texts.alike_onward in
+    let same = g.met.T.Texts.alike_texts first mid left.same in
+    let here = subst (SeesCopy table depth after digest visited) c.in-Extension.is sees in
+    let o = old.Extension c.as_slice-in-Extension.result c.in-Extension.child c.saturating_sub.result in
+    let reads = reads-extension table depth after digest visited c.as_slice-in-Extension.result c.in-Extension.path c.in-Extension.child c.saturating_sub.result c.as_slice-in-Extension.ensures c.saturating_sub.ensures here in
+    let new = c.at_old-in-Extension.new.store in
+    let result = c.at_old-in-Extension.result in
+    old-placed store onward first mid new same depth after digest visited left o reads cs result c.args.ledger.now c.lose.new.self c.at_old-in-Extension.new.ledger _ (lent-some depth c.args.changes.now c.requires.some) c.in_ok-lose.ensures.loses c.at_old-in-Extension.ensures.placed
+
+pub at_digest-returns-in-Extension-clause-keeps : goal.at_digest-returns-in-Extension-clause-keeps
+at_digest-returns-in-Extension-clause-keeps g t c =
+    let store = g.T.Texts.store in
+    let first = c.args.store.now in
+    let mid = c.visit.new.store in
+    let table = store.texts first in
+    let depth = c.args.depth in
+    let after = c.args.after_extension in
+    let digest = c.args.digest.now in
+    let cs = changes_at depth c.args.changes.now in
+    let deep = lent-deep depth c.args.changes.now c.requires.changes c.requires.some in
+    let visited = c.in_ok-node.field-0 in
+    let left = c.in_ok-node.ensures.left in
+    let sees = sees-visited table depth after digest visited deep c.in_ok-node.ensures.answer in
+    let onward = g.met.T.Texts.alike_onward in
+    let same = g.met.T.Texts.alike_texts first mid left.same in
+    let here = subst (SeesCopy table depth after digest visited) c.in-Extension.is sees in
+    let o = old.Extension c.as_slice-in-Extension.result c.in-Extension.child c.saturating_sub.result in
+    let reads = reads-extension table depth after digest visited c.as_slice-in-Extension.result c.in-Extension.path c.in-Extension.child c.saturating_sub.result c.as_slice-in-Extension.ensures c.saturating_sub.ensures here in
+    let new = c.at_old-in-Extension.new.store in
+    let result = c.at_old-in-Extension.result in
+    let carries = old-carries store onward first mid new same depth after digest visited left o reads cs result c.at_old-in-Extension.ensures.carries in
+    old-keeps store onward first mid new same depth after digest visited left o reads cs (below-changes_at depth c.args.changes.now c.requires.changes) (lent-some depth c.args.changes.now c.requires.some) result carries c.at_old-in-Extension.ensures.keeps
+
+pub at_digest-returns-in-Branch-clause-carries : goal.at_digest-returns-in-Branch-clause-carries
+at_digest-returns-in-Branch-clause-carries g t c =
+    let store = g.T.Texts.store in
+    let first = c.args.store.now in
+    let mid = c.visit.new.store in
+    let table = store.texts first in
+    let depth = c.args.depth in
+    let after = c.args.after_extension in
+    let digest = c.args.digest.now in
+    let cs = changes_at depth c.args.changes.now in
+    let deep = lent-deep depth c.args.changes.now c.requires.changes c.requires.some in
+    let visited = c.in_ok-node.field-0 in
+    let left = c.in_ok-node.ensures.left in
+    let sees = sees-visited table depth after digest visited deep c.in_ok-node.ensures.answer in
+    let onward = g.met.T.Texts.alike_onward in
+    let same = g.met.T.Texts.alike_texts first mid left.same in
+    let ref = option_map value_of c.in-Branch.value in
+    let kids = children_in c.deref.result.now in
+    let here = subst (λ k. SeesBranch table depth after digest visited ref (children_in k)) (sym c.deref.ensures) (subst (SeesCopy table depth after digest visited) c.in-Branch.is sees) in
+    let new = c.at_branch.new.store in
+    let result = c.at_branch.result in
+    let children = visited-children store onward first mid new same depth after digest visited left ref kids here cs result in
+    visited-carries store onward first mid new same depth after digest visited left ref kids here cs result (c.at_branch.ensures.carries here.below children)
+
+pub at_digest-returns-in-Branch-clause-placed : goal.at_digest-returns-in-Branch-clause-placed
+at_digest-returns-in-Branch-clause-placed g t c =
+    let store = g.T.Texts.store in
+    let first = c.args.store.now in
+    let mid = c.visit.new.store in
+    let table = store.texts first in
+    let depth = c.args.depth in
+    let after = c.args.after_extension in
+    let digest = c.args.digest.now in
+    let cs = changes_at depth c.args.changes.now in
+    let deep = lent-deep depth c.args.changes.now c.requires.changes c.requires.some in
+    let visited = c.in_ok-node.field-0 in
+    let left = c.in_ok-node.ensures.left in
+    let sees = sees-visited table depth after digest visited deep c.in_ok-node.ensures.answer in
+    let onward = g.met.T.Texts.alike_onward in
+    let same = g.met.T.Texts.alike_texts first mid left.same in
+    let ref = option_map value_of c.in-Branch.value in
+    let kids = children_in c.deref.result.now in
+    let here = subst (λ k. SeesBranch table depth after digest visited ref (children_in k)) (sym c.deref.ensures) (subst (SeesCopy table depth after digest visited) c.in-Branch.is sees) in
+    let new = c.at_branch.new.store in
+    let result = c.at_branch.result in
+    let children = visited-children store onward first mid new same depth after digest visited left ref kids here cs result in
+    visited-placed store onward first mid new same depth after digest visited left ref kids here cs result c.args.ledger.now c.lose.new.self c.at_branch.new.ledger _ c.in_ok-lose.ensures.loses (c.at_branch.ensures.placed here.below children)
+
+pub at_digest-returns-in-Branch-clause-keeps : goal.at_digest-returns-in-Branch-clause-keeps
+at_digest-returns-in-Branch-clause-keeps g t c =
+    let store = g.T.Texts.store in
+    let first = c.args.store.now in
+    let mid = c.visit.new.store in
+    let table = store.texts first in
+    let depth = c.args.depth in
+    let after = c.args.after_extension in
+    let digest = c.args.digest.now in
+    let cs = changes_at depth c.args.changes.now in
+    let deep = lent-deep depth c.args.changes.now c.requires.changes c.requires.some in
+    let visited = c.in_ok-node.field-0 in
+    let left = c.in_ok-node.ensures.left in
+    let sees = sees-visited table depth after digest visited deep c.in_ok-node.ensures.answer in
+    let onward = g.met.T.Texts.alike_onward in
+    let same = g.met.T.Texts.alike_texts first mid left.same in
+    let ref = option_map value_of c.in-Branch.value in
+    let kids = children_in c.deref.result.now in
+    let here = subst (λ k. SeesBranch table depth after digest visited ref (children_in k)) (sym c.deref.ensures) (subst (SeesCopy table depth after digest visited) c.in-Branch.is sees) in
+    let new = c.at_branch.new.store in
+    let result = c.at_branch.result in
+    let children = visited-children store onward first mid new same depth after digest visited left ref kids here cs result in
+    visited-keeps store onward first mid new same depth after digest visited left ref kids here cs result (c.at_branch.ensures.keeps here.below children)
+
+pub at_fork-returns-in_err-left-clause-carries : goal.at_fork-returns-in_err-left-clause-carries
+at_fork-returns-in_err-left-clause-carries g t c =
+    let store = g.T.Texts.store in
+    let old = c.args.store.now in
+    let table = store.texts old in
+    let new = c.at_nibbles.new.store in
+    let changes = c.args.changes.now in
+    let cs = changes_at c.args.depth changes in
+    let stood = c.args.old.now in
+    let below_it = below-changes_at c.args.depth changes c.requires.changes in
+    let whole = top_visits (seen_past table c.args.depth c.args.shared stood) (old_past c.args.shared stood) cs in
+    let visits = places-visits table c.args.depth c.args.shared stood cs c.value_at-value.result c.value_at-value.ensures c.requires.reaches c.requires.forks c.requires.old below_it in
+    carries-passed store {X = Left × ℕ} {Y = Placed} old new whole c.in_err-left.field-0.0 c.from_residual.result c.from_residual.ensures.1
+    (subst (λ v. Carries {X = Left × ℕ} store old new v (Err c.in_err-left.field-0.0)) visits c.in_err-left.ensures.carries)
+
+pub at_fork-join-requires-clause-joins : goal.at_fork-join-requires-clause-joins
+at_fork-join-requires-clause-joins g t c =
+    let store = g.T.Texts.store in
+    let old = c.args.store.now in
+    let table = store.texts old in
+    let new = c.at_nibbles.new.store in
+    let changes = c.args.changes.now in
+    let cs = changes_at c.args.depth changes in
+    let stood = c.args.old.now in
+    let below_it = below-changes_at c.args.depth changes c.requires.changes in
+    let whole = top_visits (seen_past table c.args.depth c.args.shared stood) (old_past c.args.shared stood) cs in
+    let more = changes-some c.args.depth changes c.requires.some in
+    let long = length-changes_at c.args.depth changes in
+    let few : length cs ≤ most_changes = (let f = c.requires.few in omega arith) in
+    fork-end-can table c.args.depth c.args.shared stood cs c.value_at-value.result c.value_at-value.ensures c.requires.reaches c.requires.forks c.requires.old below_it more few c.args.ledger.now c.at_nibbles.new.ledger c.in_ok-left.left c.in_ok-left.stated c.in_ok-left.ensures.parted
+
+pub at_fork-returns-in_err-sub-clause-carries : goal.at_fork-returns-in_err-sub-clause-carries
+at_fork-returns-in_err-sub-clause-carries g t c =
+    let store = g.T.Texts.store in
+    let old = c.args.store.now in
+    let table = store.texts old in
+    let new = c.at_nibbles.new.store in
+    let changes = c.args.changes.now in
+    let cs = changes_at c.args.depth changes in
+    let stood = c.args.old.now in
+    let below_it = below-changes_at c.args.depth changes c.requires.changes in
+    let whole = top_visits (seen_past table c.args.depth c.args.shared stood) (old_past c.args.shared stood) cs in
+    let visits = places-visits table c.args.depth c.args.shared stood cs c.value_at-value.result c.value_at-value.ensures c.requires.reaches c.requires.forks c.requires.old below_it in
+    let carried = subst (λ v. Carries {X = Left × ℕ} store old new v (Ok (c.in_ok-left.left, c.in_ok-left.stated))) visits c.in_ok-left.ensures.carries in
+    carries-passed store {X = Placed} {Y = Placed} old new whole NoMemory c.from_residual-in_err-sub.result
+    (subst (λ e. IsErrAnd c.from_residual-in_err-sub.result (λ given. given ≡ e)) c.in_err-sub.ensures.error c.from_residual-in_err-sub.ensures.1)
+    (carries-late store {X = Left × ℕ} {Y = Placed} old new whole (c.in_ok-left.left, c.in_ok-left.stated) carried)
+
+pub at_fork-returns-clause-carries : goal.at_fork-returns-clause-carries
+at_fork-returns-clause-carries g t c =
+    let store = g.T.Texts.store in
+    let old = c.args.store.now in
+    let table = store.texts old in
+    let new = c.at_nibbles.new.store in
+    let changes = c.args.changes.now in
+    let cs = changes_at c.args.depth changes in
+    let stood = c.args.old.now in
+    let below_it = below-changes_at c.args.depth changes c.requires.changes in
+    let whole = top_visits (seen_past table c.args.depth c.args.shared stood) (old_past c.args.shared stood) cs in
+    let visits = places-visits table c.args.depth c.args.shared stood cs c.value_at-value.result c.value_at-value.ensures c.requires.reaches c.requires.forks c.requires.old below_it in
+    let carried = subst (λ v. Carries {X = Left × ℕ} store old new v (Ok (c.in_ok-left.left, c.in_ok-left.stated))) visits c.in_ok-left.ensures.carries in
+    carries-ok store {X = Left × ℕ} {Y = Placed} old new whole (c.in_ok-left.left, c.in_ok-left.stated) _ carried
+
+pub at_fork-returns-clause-placed : goal.at_fork-returns-clause-placed
+at_fork-returns-clause-placed g t c =
+    let store = g.T.Texts.store in
+    let old = c.args.store.now in
+    let table = store.texts old in
+    let new = c.at_nibbles.new.store in
+    let changes = c.args.changes.now in
+    let cs = changes_at c.args.depth changes in
+    let stood = c.args.old.now in
+    let below_it = below-changes_at c.args.depth changes c.requires.changes in
+    let whole = top_visits (seen_past table c.args.depth c.args.shared stood) (old_past c.args.shared stood) cs in
+    let more = changes-some c.args.depth changes c.requires.some in
+    let long = length-changes_at c.args.depth changes in
+    let few : length cs ≤ most_changes = (let f = c.requires.few in omega arith) in
+    fork-end-placed table c.args.depth c.args.shared stood cs c.value_at-value.result c.value_at-value.ensures c.requires.reaches c.requires.forks c.requires.old below_it more few c.args.ledger.now c.at_nibbles.new.ledger c.in_ok-left.left c.in_ok-left.stated c.in_ok-left.ensures.parted (length changes) c.join.new.ledger (record { sub = c.in_ok-sub.sub; stated = c.in_ok-left.stated }) long c.in_ok-sub.ensures.top refl c.in_ok-sub.ensures.adds
+
+pub at_fork-returns-clause-keeps : goal.at_fork-returns-clause-keeps
+at_fork-returns-clause-keeps g t c =
+    let store = g.T.Texts.store in
+    let old = c.args.store.now in
+    let table = store.texts old in
+    let new = c.at_nibbles.new.store in
+    let changes = c.args.changes.now in
+    let cs = changes_at c.args.depth changes in
+    let stood = c.args.old.now in
+    let below_it = below-changes_at c.args.depth changes c.requires.changes in
+    let whole = top_visits (seen_past table c.args.depth c.args.shared stood) (old_past c.args.shared stood) cs in
+    let more = changes-some c.args.depth changes c.requires.some in
+    let long = length-changes_at c.args.depth changes in
+    let few : length cs ≤ most_changes = (let f = c.requires.few in omega arith) in
+    fork-end-keeps table c.args.depth c.args.shared stood cs c.value_at-value.result c.value_at-value.ensures c.requires.reaches c.requires.forks c.requires.old below_it more few c.args.ledger.now c.at_nibbles.new.ledger c.in_ok-left.left c.in_ok-left.stated c.in_ok-left.ensures.parted
+
+pub at_former-returns-then-is_empty-clause-carries : goal.at_former-returns-then-is_empty-clause-carries
+at_former-returns-then-is_empty-clause-carries g t c =
+    let store = g.T.Texts.store in
+    let old = c.args.store.now in
+    let table = store.texts old in
+    let cs = changes_at c.args.depth c.args.changes.now in
+    let p = place_of table c.args.depth c.args.former.now in
+    let none : cs ≡ [] = ap (changes_at c.args.depth) (empty-changes c.args.changes.now c.if-is_empty.ensures) in
+    let visits = ap (place_visits p) none ∙ untouched-visits p in
+    subst (λ v. Carries {X = Child × ℕ} store old old v (Ok (c.in_ok-unchanged.field-0, 0))) (sym visits) (carries-none store {X = Child × ℕ} old (c.in_ok-unchanged.field-0, 0) (g.met.T.Texts.alike_itself old))
+
+pub at_former-returns-then-is_empty-clause-child : goal.at_former-returns-then-is_empty-clause-child
+at_former-returns-then-is_empty-clause-child g t c =
+    let store = g.T.Texts.store in
+    let old = c.args.store.now in
+    let table = store.texts old in
+    let cs = changes_at c.args.depth c.args.changes.now in
+    let p = place_of table c.args.depth c.args.former.now in
+    let none : cs ≡ [] = ap (changes_at c.args.depth) (empty-changes c.args.changes.now c.if-is_empty.ensures) in
+    child-untouched table c.args.depth c.args.former.now cs c.args.ledger.now c.in_ok-unchanged.field-0 none c.in_ok-unchanged.ensures.child
+
+pub at_former-returns-in_err-sub-in-Known-clause-carries : goal.at_former-returns-in_err-sub-in-Known-clause-carries
+at_former-returns-in_err-sub-in-Known-clause-carries g t c =
+    let store = g.T.Texts.store in
+    let old = c.args.store.now in
+    let table = store.texts old in
+    let cs = changes_at c.args.depth c.args.changes.now in
+    let some = some-changes c.args.changes.now c.if-is_empty.ensures in
+    let p = place_of table c.args.depth c.args.former.now in
+    let long = length-changes_at c.args.depth c.args.changes.now in
+    let below = seen_past table c.args.depth 0 c.in-Known.old in
+    let top = old_past 0 c.in-Known.old in
+    let visits = top_visits below top cs in
+    let stated = top_stated below top cs in
+    let outcome = laid (λ x. updated below x) top cs in
+    let touched = known-touched table c.args.depth c.args.former.now c.args.changes.now some c.in-Known.old c.in-Known.is in
+    carries-placed c.args.depth p cs (length c.args.changes.now) visits stated outcome touched long store old c.at_path.new.store c.from_residual-in_err-sub-in-Known.result
+    (carries-passed store {X = Placed} {Y = Child × ℕ} old c.at_path.new.store visits c.in_err-sub-in-Known.field-0.0 c.from_residual-in_err-sub-in-Known.result c.from_residual-in_err-sub-in-Known.ensures.1 c.in_err-sub-in-Known.ensures.carries)
+
+pub at_former-returns-in_err-sub-in-Named-clause-carries : goal.at_former-returns-in_err-sub-in-Named-clause-carries
+at_former-returns-in_err-sub-in-Named-clause-carries g t c =
+    let store = g.T.Texts.store in
+    let old = c.args.store.now in
+    let table = store.texts old in
+    let cs = changes_at c.args.depth c.args.changes.now in
+    let some = some-changes c.args.changes.now c.if-is_empty.ensures in
+    let p = place_of table c.args.depth c.args.former.now in
+    let long = length-changes_at c.args.depth c.args.changes.now in
+    let seen = seen_at table c.args.depth false c.in-Named.digest.0 in
+    let visits = visits_at seen cs in
+    let stated = stated_usage seen in
+    let outcome = updated seen cs in
+    let touched = named-touched table c.args.depth c.args.former.now c.args.changes.now some c.in-Named.digest c.in-Named.is in
+    carries-placed c.args.depth p cs (length c.args.changes.now) visits stated outcome touched long store old c.at_digest.new.store c.from_residual-in_err-sub-in-Named.result
+    (carries-passed store {X = Placed} {Y = Child × ℕ} old c.at_digest.new.store visits c.in_err-sub-in-Named.field-0.0 c.from_residual-in_err-sub-in-Named.result c.from_residual-in_err-sub-in-Named.ensures.1 c.in_err-sub-in-Named.ensures.carries)
+
+pub at_former-returns-in_ok-sub-in-Known-clause-carries : goal.at_former-returns-in_ok-sub-in-Known-clause-carries
+at_former-returns-in_ok-sub-in-Known-clause-carries g t c =
+    let store = g.T.Texts.store in
+    let old = c.args.store.now in
+    let table = store.texts old in
+    let cs = changes_at c.args.depth c.args.changes.now in
+    let some = some-changes c.args.changes.now c.if-is_empty.ensures in
+    let p = place_of table c.args.depth c.args.former.now in
+    let long = length-changes_at c.args.depth c.args.changes.now in
+    let below = seen_past table c.args.depth 0 c.in-Known.old in
+    let top = old_past 0 c.in-Known.old in
+    let visits = top_visits below top cs in
+    let stated = top_stated below top cs in
+    let outcome = laid (λ x. updated below x) top cs in
+    let touched = known-touched table c.args.depth c.args.former.now c.args.changes.now some c.in-Known.old c.in-Known.is in
+    carries-placed c.args.depth p cs (length c.args.changes.now) visits stated outcome touched long {X = Child × ℕ} store old c.at_path.new.store _
+    (carries-ok store {X = Placed} {Y = Child × ℕ} old c.at_path.new.store visits c.in_ok-sub-in-Known.field-0 _ c.in_ok-sub-in-Known.ensures.carries)
+
+pub at_former-returns-in_ok-sub-in-Known-clause-child : goal.at_former-returns-in_ok-sub-in-Known-clause-child
+at_former-returns-in_ok-sub-in-Known-clause-child g t c =
+    let store = g.T.Texts.store in
+    let old = c.args.store.now in
+    let table = store.texts old in
+    let cs = changes_at c.args.depth c.args.changes.now in
+    let some = some-changes c.args.changes.now c.if-is_empty.ensures in
+    let p = place_of table c.args.depth c.args.former.now in
+    let long = length-changes_at c.args.depth c.args.changes.now in
+    let below = seen_past table c.args.depth 0 c.in-Known.old in
+    let top = old_past 0 c.in-Known.old in
+    let visits = top_visits below top cs in
+    let stated = top_stated below top cs in
+    let outcome = laid (λ x. updated below x) top cs in
+    let touched = known-touched table c.args.depth c.args.former.now c.args.changes.now some c.in-Known.old c.in-Known.is in
+    child-placed c.args.depth p cs (length c.args.changes.now) visits stated outcome touched long c.args.ledger.now c.at_path.new.ledger c.in_ok-sub-in-Known.field-0 c.in_ok-sub-in-Known.ensures.placed (known-keeps table c.args.depth c.args.former.now c.args.changes.now some c.in-Known.old c.in-Known.is c.in_ok-sub-in-Known.ensures.keeps)
+
+pub at_former-returns-in_ok-sub-in-Named-clause-carries : goal.at_former-returns-in_ok-sub-in-Named-clause-carries
+at_former-returns-in_ok-sub-in-Named-clause-carries g t c =
+    let store = g.T.Texts.store in
+    let old = c.args.store.now in
+    let table = store.texts old in
+    let cs = changes_at c.args.depth c.args.changes.now in
+    let some = some-changes c.args.changes.now c.if-is_empty.ensures in
+    let p = place_of table c.args.depth c.args.former.now in
+    let long = length-changes_at c.args.depth c.args.changes.now in
+    let seen = seen_at table c.args.depth false c.in-Named.digest.0 in
+    let visits = visits_at seen cs in
+    let stated = stated_usage seen in
+    let outcome = updated seen cs in
+    let touched = named-touched table c.args.depth c.args.former.now c.args.changes.now some c.in-Named.digest c.in-Named.is in
+    carries-placed c.args.depth p cs (length c.args.changes.now) visits stated outcome touched long {X = Child × ℕ} store old c.at_digest.new.store _
+    (carries-ok store {X = Placed} {Y = Child × ℕ} old c.at_digest.new.store visits c.in_ok-sub-in-Named.field-0 _ c.in_ok-sub-in-Named.ensures.carries)
+
+pub at_former-returns-in_ok-sub-in-Named-clause-child : goal.at_former-returns-in_ok-sub-in-Named-clause-child
+at_former-returns-in_ok-sub-in-Named-clause-child g t c =
+    let store = g.T.Texts.store in
+    let old = c.args.store.now in
+    let table = store.texts old in
+    let cs = changes_at c.args.depth c.args.changes.now in
+    let some = some-changes c.args.changes.now c.if-is_empty.ensures in
+    let p = place_of table c.args.depth c.args.former.now in
+    let long = length-changes_at c.args.depth c.args.changes.now in
+    let seen = seen_at table c.args.depth false c.in-Named.digest.0 in
+    let visits = visits_at seen cs in
+    let stated = stated_usage seen in
+    let outcome = updated seen cs in
+    let touched = named-touched table c.args.depth c.args.former.now c.args.changes.now some c.in-Named.digest c.in-Named.is in
+    child-placed c.args.depth p cs (length c.args.changes.now) visits stated outcome touched long c.args.ledger.now c.at_digest.new.ledger c.in_ok-sub-in-Named.field-0 c.in_ok-sub-in-Named.ensures.placed (named-keeps table c.args.depth c.args.former.now c.args.changes.now some c.in-Named.digest c.in-Named.is c.in_ok-sub-in-Named.ensures.keeps)
+
+pub at_nibbles-run_length-requires-clause-rises : goal.at_nibbles-run_length-requires-clause-rises
+at_nibbles-run_length-requires-clause-rises g t c = c.loop-nibble.invariant.left.changes.rises
+
+pub at_nibbles-run_length-requires-clause-from : goal.at_nibbles-run_length-requires-clause-from
+at_nibbles-run_length-requires-clause-from g t c = c.loop-nibble.invariant.left.from
+
+pub at_nibbles-split_at-requires : goal.at_nibbles-split_at-requires
+at_nibbles-split_at-requires g t c =
+    let short = run-short c.loop-nibble.nibble (changes_at c.args.depth c.loop-nibble.rest.now) in
+    let long = length-changes_at c.args.depth c.loop-nibble.rest.now in
+    let is = c.run_length.ensures in
+    omega arith
+
+pub at_nibbles-overflow_add-depth : goal.at_nibbles-overflow_add-depth
+at_nibbles-overflow_add-depth g t c =
+    let deep = changes-deep c.args.depth c.args.changes.now c.requires.changes c.requires.some in
+    record { fits = omega arith }
+
+pub at_nibbles-at_former-requires : goal.at_nibbles-at_former-requires
+at_nibbles-at_former-requires g t c =
+    let store = g.T.Texts.store in
+    let ref = option_map value_of c.args.former in
+    let table = store.texts c.args.store.now in
+    let places = place_behind table c.args.depth c.args.parent.now in
+    let deep = changes-deep c.args.depth c.args.changes.now c.requires.changes c.requires.some in
+    let fewer = turn-fewer store c.args.depth ref places c.args.changes.now c.loop-nibble.rest.now c.loop-nibble.nibble c.loop-nibble.children.items c.loop-nibble.stated c.args.store.now c.loop-nibble.store c.args.ledger.now c.loop-nibble.ledger c.loop-nibble.invariant c.split_at.result.0.now c.split_at.result.1.now c.run_length.result c.run_length.ensures c.split_at.ensures.front c.split_at.ensures.back in
+    let few = c.requires.few in
+    λ κs h. (search rules, (h, (turn-changes store c.args.depth ref places c.args.changes.now c.loop-nibble.rest.now c.loop-nibble.nibble c.loop-nibble.children.items c.loop-nibble.stated c.args.store.now c.loop-nibble.store c.args.ledger.now c.loop-nibble.ledger c.loop-nibble.invariant c.split_at.result.0.now c.split_at.result.1.now c.run_length.result c.run_length.ensures c.split_at.ensures.front c.split_at.ensures.back, (omega arith, (turn-room store c.args.depth ref places c.args.changes.now c.loop-nibble.rest.now c.loop-nibble.nibble c.loop-nibble.children.items c.loop-nibble.stated c.args.store.now c.loop-nibble.store c.args.ledger.now c.loop-nibble.ledger c.loop-nibble.invariant c.split_at.result.0.now c.split_at.result.1.now c.run_length.result c.run_length.ensures c.split_at.ensures.front c.split_at.ensures.back c.requires.room, (c.loop-nibble.invariant.named, c.behind-place.ensures.fits table c.args.depth c.requires.parent))))))
+
+pub at_nibbles-returns-in_err-child-clause-carries : goal.at_nibbles-returns-in_err-child-clause-carries
+at_nibbles-returns-in_err-child-clause-carries g t c =
+    let store = g.T.Texts.store in
+    let ref = option_map value_of c.args.former in
+    let table = store.texts c.args.store.now in
+    let places = place_behind table c.args.depth c.args.parent.now in
+    let texts = g.met.T.Texts.alike_texts c.args.store.now c.loop-nibble.store c.loop-nibble.invariant.carries.left.same in
+    let now = store.texts c.loop-nibble.store in
+    let place = c.behind-place.ensures.place now c.args.depth c.requires.parent ∙ ap (λ t. place_behind t c.args.depth c.args.parent.now c.loop-nibble.nibble) (sym texts) in
+    carries-passed store {X = Left × ℕ} {Y = Left × ℕ} c.args.store.now c.at_former.new.store (visits_below (λ x. place_visits (places x) (run_at (changes_at c.args.depth c.args.changes.now) x)) 16) c.in_err-child.field-0.0 c.from_residual-in_err-child.result c.from_residual-in_err-child.ensures.1
+    (turn-stopped store c.args.depth ref places c.args.changes.now c.loop-nibble.rest.now c.loop-nibble.nibble c.loop-nibble.children.items c.loop-nibble.stated c.args.store.now c.loop-nibble.store c.args.ledger.now c.loop-nibble.ledger c.loop-nibble.invariant c.split_at.result.0.now c.split_at.result.1.now c.run_length.result c.run_length.ensures c.split_at.ensures.front c.split_at.ensures.back now c.behind-place.result place {X = Child × ℕ} {Y = Left × ℕ} g.met.T.Texts.alike_onward c.at_former.new.store c.in_err-child.field-0.0 c.loop-nibble-test.true c.in_err-child.ensures.carries)
+
+pub at_nibbles-returns-in_err-push-clause-carries : goal.at_nibbles-returns-in_err-push-clause-carries
+at_nibbles-returns-in_err-push-clause-carries g t c =
+    let store = g.T.Texts.store in
+    let ref = option_map value_of c.args.former in
+    let table = store.texts c.args.store.now in
+    let places = place_behind table c.args.depth c.args.parent.now in
+    let texts = g.met.T.Texts.alike_texts c.args.store.now c.loop-nibble.store c.loop-nibble.invariant.carries.left.same in
+    let now = store.texts c.loop-nibble.store in
+    let place = c.behind-place.ensures.place now c.args.depth c.requires.parent ∙ ap (λ t. place_behind t c.args.depth c.args.parent.now c.loop-nibble.nibble) (sym texts) in
+    carries-passed store {X = Left × ℕ} {Y = Left × ℕ} c.args.store.now c.at_former.new.store (visits_below (λ x. place_visits (places x) (run_at (changes_at c.args.depth c.args.changes.now) x)) 16) NoMemory c.from_residual-in_err-push.result
+    (subst (λ e. IsErrAnd c.from_residual-in_err-push.result (λ given. given ≡ e)) c.in_err-push.ensures.error c.from_residual-in_err-push.ensures.1)
+    (turn-short store c.args.depth ref places c.args.changes.now c.loop-nibble.rest.now c.loop-nibble.nibble c.loop-nibble.children.items c.loop-nibble.stated c.args.store.now c.loop-nibble.store c.args.ledger.now c.loop-nibble.ledger c.loop-nibble.invariant c.split_at.result.0.now c.split_at.result.1.now c.run_length.result c.run_length.ensures c.split_at.ensures.front c.split_at.ensures.back now c.behind-place.result place c.at_former.new.store c.at_former.new.ledger (c.in_ok-child.child, c.in_ok-child.used) c.in_ok-child.ensures.child g.met.T.Texts.alike_onward c.in_ok-child.ensures.carries {Y = Left × ℕ} c.loop-nibble-test.true)
+
+pub at_nibbles-returns-clause-carries : goal.at_nibbles-returns-clause-carries
+at_nibbles-returns-clause-carries g t c =
+    let store = g.T.Texts.store in
+    let ref = option_map value_of c.args.former in
+    let table = store.texts c.args.store.now in
+    let places = place_behind table c.args.depth c.args.parent.now in
+    let done : c.loop-nibble.nibble ≡ 16 = omega arith in
+    end-carries store c.args.depth ref places c.args.changes.now c.loop-nibble.rest.now c.loop-nibble.nibble c.loop-nibble.children.items c.loop-nibble.stated c.args.store.now c.loop-nibble.store c.args.ledger.now c.loop-nibble.ledger c.loop-nibble.invariant done {Y = Left × ℕ} _
+
+pub at_nibbles-returns-clause-parted : goal.at_nibbles-returns-clause-parted
+at_nibbles-returns-clause-parted g t c =
+    let store = g.T.Texts.store in
+    let ref = option_map value_of c.args.former in
+    let table = store.texts c.args.store.now in
+    let places = place_behind table c.args.depth c.args.parent.now in
+    let done : c.loop-nibble.nibble ≡ 16 = omega arith in
+    end-parted store c.args.depth ref places c.args.changes.now c.loop-nibble.rest.now c.loop-nibble.nibble c.loop-nibble.children.items c.loop-nibble.stated c.args.store.now c.loop-nibble.store c.args.ledger.now c.loop-nibble.ledger c.loop-nibble.invariant done (record { value = c.in_ok-value.value; children = c.loop-nibble.children }) refl
+    (c.in_ok-value.ensures.value ∙ ap (λ h. ref_after ref h) c.ending.ensures.value)
+
+pub at_old-returns-in_err-placed-clause-carries : goal.at_old-returns-in_err-placed-clause-carries
+at_old-returns-in_err-placed-clause-carries g t c =
+    let store = g.T.Texts.store in
+    let old = c.args.store.now in
+    let new = c.at_path.new.store in
+    let table = store.texts old in
+    let cs = changes_at c.args.depth c.args.changes.now in
+    let below = seen_past table c.args.depth 0 c.args.old.now in
+    let top = old_past 0 c.args.old.now in
+    let first = top_visits below top cs in
+    let second = closed c.args.digest.now.0 c.args.stated (c.args.own + top_stated below top cs) in
+    carries-passed store {X = Placed} {Y = Placed} old new (before first second) c.in_err-placed.field-0.0 c.from_residual.result c.from_residual.ensures.1
+    (carries-stopped store {X = Placed} {Y = Placed} old new first second c.in_err-placed.field-0.0 c.in_err-placed.ensures.carries)
+
+pub at_old-returns-in_err-states_enough-clause-carries : goal.at_old-returns-in_err-states_enough-clause-carries
+at_old-returns-in_err-states_enough-clause-carries g t c =
+    let store = g.T.Texts.store in
+    let old = c.args.store.now in
+    let new = c.at_path.new.store in
+    let table = store.texts old in
+    let cs = changes_at c.args.depth c.args.changes.now in
+    let below = seen_past table c.args.depth 0 c.args.old.now in
+    let top = old_past 0 c.args.old.now in
+    let first = top_visits below top cs in
+    let second = closed c.args.digest.now.0 c.args.stated (c.args.own + top_stated below top cs) in
+    let told = c.in_ok-placed.ensures.placed.stated in
+    let sum = c.saturating_add.ensures in
+    let most = c.requires.most in
+    let less = c.in_err-states_enough.ensures.less in
+    let fewer : c.args.stated < c.args.own + top_stated below top cs = (let l = less.1 in omega arith) in
+    let all = carries-then store {X = Placed} {Y = Placed} g.met.T.Texts.alike_onward old new new first second c.in_ok-placed.placed _ c.in_ok-placed.ensures.carries (carries-less store {X = Placed} new c.args.digest.now c.args.stated (c.args.own + top_stated below top cs) (g.met.T.Texts.alike_itself new) fewer) in
+    carries-passed store {X = Placed} {Y = Placed} old new (before first second) (Usage c.args.digest.now) c.from_residual-in_err-states_enough.result
+    (subst (λ e. IsErrAnd c.from_residual-in_err-states_enough.result (λ given. given ≡ e)) less.0 c.from_residual-in_err-states_enough.ensures.1) all
+
+pub at_old-returns-clause-carries : goal.at_old-returns-clause-carries
+at_old-returns-clause-carries g t c =
+    let store = g.T.Texts.store in
+    let old = c.args.store.now in
+    let new = c.at_path.new.store in
+    let table = store.texts old in
+    let cs = changes_at c.args.depth c.args.changes.now in
+    let below = seen_past table c.args.depth 0 c.args.old.now in
+    let top = old_past 0 c.args.old.now in
+    let first = top_visits below top cs in
+    let second = closed c.args.digest.now.0 c.args.stated (c.args.own + top_stated below top cs) in
+    let told = c.in_ok-placed.ensures.placed.stated in
+    let sum = c.saturating_add.ensures in
+    let most = c.requires.most in
+    let enough = c.in_ok-states_enough.ensures.enough in
+    let fewer : c.args.own + top_stated below top cs ≤ c.args.stated = omega arith in
+    carries-then store {X = Placed} {Y = Placed} g.met.T.Texts.alike_onward old new new first second c.in_ok-placed.placed _ c.in_ok-placed.ensures.carries (carries-closed store {X = Placed} new c.args.digest.now.0 c.args.stated (c.args.own + top_stated below top cs) _ (g.met.T.Texts.alike_itself new) fewer)
+
+pub at_path-overflow_add-below : goal.at_path-overflow_add-below
+at_path-overflow_add-below g t c =
+    let deep = changes-deep (c.args.depth + c.shared_length-shared.result) c.args.changes.now c.shared_length-shared.ensures.deeper c.requires.some in
+    record { fits = omega arith }
+
+pub at_path-returns-in_err-placed-in-Some-clause-carries : goal.at_path-returns-in_err-placed-in-Some-clause-carries
+at_path-returns-in_err-placed-in-Some-clause-carries g t c =
+    let store = g.T.Texts.store in
+    let old = c.args.store.now in
+    let table = store.texts old in
+    let shared = c.shared_length-shared in
+    let count = shared.result in
+    let below = c.args.depth + count in
+    let changes = c.args.changes.now in
+    let stood = c.args.old.now in
+    let d = some-lent changes c.requires.some in
+    let visits = path-visits table c.args.depth count changes d stood c.requires.some shared.ensures.deeper shared.ensures.keys shared.ensures.begin in
+    let led = led-some table below count stood c.in-Some.child c.in-Some.ensures in
+    let more = changes-some below changes c.requires.some in
+    let there = seen_at table below true c.in-Some.child.0 in
+    let cs = changes_at below changes in
+    let led_is = led-visits table below count stood c.in-Some.child led cs more in
+    let new = c.at_digest.new.store in
+    let whole = top_visits (seen_past table c.args.depth 0 stood) (old_past 0 stood) (changes_at c.args.depth changes) in
+    carries-passed store {X = Placed} {Y = Placed} old new whole c.in_err-placed-in-Some.field-0.0 c.from_residual.result c.from_residual.ensures.1
+    (subst (λ v. Carries {X = Placed} store old new v (Err c.in_err-placed-in-Some.field-0.0)) (sym (visits ∙ led_is)) c.in_err-placed-in-Some.ensures.carries)
+
+pub at_path-at_fork-requires : goal.at_path-at_fork-requires
+at_path-at_fork-requires g t c =
+    let store = g.T.Texts.store in
+    let old = c.args.store.now in
+    let table = store.texts old in
+    let shared = c.shared_length-shared in
+    let count = shared.result in
+    let below = c.args.depth + count in
+    let changes = c.args.changes.now in
+    let stood = c.args.old.now in
+    let d = some-lent changes c.requires.some in
+    let visits = path-visits table c.args.depth count changes d stood c.requires.some shared.ensures.deeper shared.ensures.keys shared.ensures.begin in
+    let reaches = reaches-begin c.args.depth changes count stood shared.ensures.begin in
+    λ κs h. (search rules, (h, (shared.ensures.deeper, (c.requires.some, (c.requires.few, (c.requires.room, (c.requires.named, (path-fits table c.args.depth count changes d stood c.requires.some shared.ensures.deeper shared.ensures.keys shared.ensures.begin c.requires.old, (reaches, led-none count stood c.in-None.ensures reaches)))))))))
+
+pub at_path-returns-in_err-placed-in-None-clause-carries : goal.at_path-returns-in_err-placed-in-None-clause-carries
+at_path-returns-in_err-placed-in-None-clause-carries g t c =
+    let store = g.T.Texts.store in
+    let old = c.args.store.now in
+    let table = store.texts old in
+    let shared = c.shared_length-shared in
+    let count = shared.result in
+    let below = c.args.depth + count in
+    let changes = c.args.changes.now in
+    let stood = c.args.old.now in
+    let d = some-lent changes c.requires.some in
+    let visits = path-visits table c.args.depth count changes d stood c.requires.some shared.ensures.deeper shared.ensures.keys shared.ensures.begin in
+    let base = old_past count stood in
+    let seen = seen_past table below count stood in
+    let cs = changes_at below changes in
+    let new = c.at_fork.new.store in
+    let whole = top_visits (seen_past table c.args.depth 0 stood) (old_past 0 stood) (changes_at c.args.depth changes) in
+    let forks = led-none count stood c.in-None.ensures (reaches-begin c.args.depth changes count stood shared.ensures.begin) in
+    carries-passed store {X = Placed} {Y = Placed} old new whole c.in_err-placed-in-None.field-0.0 c.from_residual-in_err-placed-in-None.result c.from_residual-in_err-placed-in-None.ensures.1
+    (subst (λ v. Carries {X = Placed} store old new v (Err c.in_err-placed-in-None.field-0.0)) (sym visits) c.in_err-placed-in-None.ensures.carries)
+
+pub at_path-returns-in_ok-placed-in-Some-clause-carries : goal.at_path-returns-in_ok-placed-in-Some-clause-carries
+at_path-returns-in_ok-placed-in-Some-clause-carries g t c =
+    let store = g.T.Texts.store in
+    let old = c.args.store.now in
+    let table = store.texts old in
+    let shared = c.shared_length-shared in
+    let count = shared.result in
+    let below = c.args.depth + count in
+    let changes = c.args.changes.now in
+    let stood = c.args.old.now in
+    let d = some-lent changes c.requires.some in
+    let visits = path-visits table c.args.depth count changes d stood c.requires.some shared.ensures.deeper shared.ensures.keys shared.ensures.begin in
+    let led = led-some table below count stood c.in-Some.child c.in-Some.ensures in
+    let more = changes-some below changes c.requires.some in
+    let there = seen_at table below true c.in-Some.child.0 in
+    let cs = changes_at below changes in
+    let led_is = led-visits table below count stood c.in-Some.child led cs more in
+    let new = c.at_digest.new.store in
+    let whole = top_visits (seen_past table c.args.depth 0 stood) (old_past 0 stood) (changes_at c.args.depth changes) in
+    carries-end store {X = Placed} {Y = Placed} old new whole c.in_ok-placed-in-Some.placed c.lower.result c.lower.ensures.error
+    (subst (λ v. Carries {X = Placed} store old new v (Ok c.in_ok-placed-in-Some.placed)) (sym (visits ∙ led_is)) c.in_ok-placed-in-Some.ensures.carries)
+
+pub at_path-returns-in_ok-placed-in-Some-clause-placed : goal.at_path-returns-in_ok-placed-in-Some-clause-placed
+at_path-returns-in_ok-placed-in-Some-clause-placed g t c =
+    let store = g.T.Texts.store in
+    let old = c.args.store.now in
+    let table = store.texts old in
+    let shared = c.shared_length-shared in
+    let count = shared.result in
+    let below = c.args.depth + count in
+    let changes = c.args.changes.now in
+    let stood = c.args.old.now in
+    let d = some-lent changes c.requires.some in
+    let visits = path-visits table c.args.depth count changes d stood c.requires.some shared.ensures.deeper shared.ensures.keys shared.ensures.begin in
+    let led = led-some table below count stood c.in-Some.child c.in-Some.ensures in
+    let more = changes-some below changes c.requires.some in
+    let there = seen_at table below true c.in-Some.child.0 in
+    let cs = changes_at below changes in
+    let led_is = led-visits table below count stood c.in-Some.child led cs more in
+    let new = c.at_digest.new.store in
+    let whole = top_visits (seen_past table c.args.depth 0 stood) (old_past 0 stood) (changes_at c.args.depth changes) in
+    if_ok-both c.lower.result _ _ _ (λ lower top stated. path-placed table c.args.depth count changes d stood c.requires.some shared.ensures.deeper shared.ensures.keys shared.ensures.begin (updated there cs) (stated_usage there) (length changes) c.args.ledger.now c.at_digest.new.ledger c.in_ok-placed-in-Some.placed lower
+    (led-outcome table below count stood c.in-Some.child led cs more) (led-stated table below count stood c.in-Some.child led cs more) c.in_ok-placed-in-Some.ensures.placed (top d) stated) c.lower.ensures.top c.lower.ensures.stated
+
+pub at_path-returns-in_ok-placed-in-Some-clause-keeps : goal.at_path-returns-in_ok-placed-in-Some-clause-keeps
+at_path-returns-in_ok-placed-in-Some-clause-keeps g t c =
+    let store = g.T.Texts.store in
+    let old = c.args.store.now in
+    let table = store.texts old in
+    let shared = c.shared_length-shared in
+    let count = shared.result in
+    let below = c.args.depth + count in
+    let changes = c.args.changes.now in
+    let stood = c.args.old.now in
+    let d = some-lent changes c.requires.some in
+    let visits = path-visits table c.args.depth count changes d stood c.requires.some shared.ensures.deeper shared.ensures.keys shared.ensures.begin in
+    let led = led-some table below count stood c.in-Some.child c.in-Some.ensures in
+    let more = changes-some below changes c.requires.some in
+    let there = seen_at table below true c.in-Some.child.0 in
+    let cs = changes_at below changes in
+    let led_is = led-visits table below count stood c.in-Some.child led cs more in
+    let new = c.at_digest.new.store in
+    let whole = top_visits (seen_past table c.args.depth 0 stood) (old_past 0 stood) (changes_at c.args.depth changes) in
+    let keeps = path-keeps table c.args.depth count changes d stood c.requires.some shared.ensures.deeper shared.ensures.keys shared.ensures.begin (led-keeps table below count stood c.in-Some.child led cs more c.in_ok-placed-in-Some.ensures.keeps) in
+    IfOk-weaker c.lower.result _ (λ _. TopKeeps c.args.depth (seen_past table c.args.depth 0 stood) (old_past 0 stood) (changes_at c.args.depth changes)) (λ lower e. keeps) c.lower.ensures.stated
+
+pub at_path-returns-in_ok-placed-in-None-clause-carries : goal.at_path-returns-in_ok-placed-in-None-clause-carries
+at_path-returns-in_ok-placed-in-None-clause-carries g t c =
+    let store = g.T.Texts.store in
+    let old = c.args.store.now in
+    let table = store.texts old in
+    let shared = c.shared_length-shared in
+    let count = shared.result in
+    let below = c.args.depth + count in
+    let changes = c.args.changes.now in
+    let stood = c.args.old.now in
+    let d = some-lent changes c.requires.some in
+    let visits = path-visits table c.args.depth count changes d stood c.requires.some shared.ensures.deeper shared.ensures.keys shared.ensures.begin in
+    let base = old_past count stood in
+    let seen = seen_past table below count stood in
+    let cs = changes_at below changes in
+    let new = c.at_fork.new.store in
+    let whole = top_visits (seen_past table c.args.depth 0 stood) (old_past 0 stood) (changes_at c.args.depth changes) in
+    let forks = led-none count stood c.in-None.ensures (reaches-begin c.args.depth changes count stood shared.ensures.begin) in
+    carries-end store {X = Placed} {Y = Placed} old new whole c.in_ok-placed-in-None.placed c.lower-in-None.result c.lower-in-None.ensures.error
+    (subst (λ v. Carries {X = Placed} store old new v (Ok c.in_ok-placed-in-None.placed)) (sym visits) c.in_ok-placed-in-None.ensures.carries)
+
+pub at_path-returns-in_ok-placed-in-None-clause-placed : goal.at_path-returns-in_ok-placed-in-None-clause-placed
+at_path-returns-in_ok-placed-in-None-clause-placed g t c =
+    let store = g.T.Texts.store in
+    let old = c.args.store.now in
+    let table = store.texts old in
+    let shared = c.shared_length-shared in
+    let count = shared.result in
+    let below = c.args.depth + count in
+    let changes = c.args.changes.now in
+    let stood = c.args.old.now in
+    let d = some-lent changes c.requires.some in
+    let visits = path-visits table c.args.depth count changes d stood c.requires.some shared.ensures.deeper shared.ensures.keys shared.ensures.begin in
+    let base = old_past count stood in
+    let seen = seen_past table below count stood in
+    let cs = changes_at below changes in
+    let new = c.at_fork.new.store in
+    let whole = top_visits (seen_past table c.args.depth 0 stood) (old_past 0 stood) (changes_at c.args.depth changes) in
+    let forks = led-none count stood c.in-None.ensures (reaches-begin c.args.depth changes count stood shared.ensures.begin) in
+    let child : List Change → Outcome = λ ds. updated seen ds in
+    if_ok-both c.lower-in-None.result _ _ _ (λ lower top stated. path-placed table c.args.depth count changes d stood c.requires.some shared.ensures.deeper shared.ensures.keys shared.ensures.begin (fork_outcome (laid child) base cs) (top_stated seen base cs) (length changes) c.args.ledger.now c.at_fork.new.ledger c.in_ok-placed-in-None.placed lower
+    (laid-fork child base cs forks) refl c.in_ok-placed-in-None.ensures.placed (top d) stated) c.lower-in-None.ensures.top c.lower-in-None.ensures.stated
+
+pub at_path-returns-in_ok-placed-in-None-clause-keeps : goal.at_path-returns-in_ok-placed-in-None-clause-keeps
+at_path-returns-in_ok-placed-in-None-clause-keeps g t c =
+    let store = g.T.Texts.store in
+    let old = c.args.store.now in
+    let table = store.texts old in
+    let shared = c.shared_length-shared in
+    let count = shared.result in
+    let below = c.args.depth + count in
+    let changes = c.args.changes.now in
+    let stood = c.args.old.now in
+    let d = some-lent changes c.requires.some in
+    let visits = path-visits table c.args.depth count changes d stood c.requires.some shared.ensures.deeper shared.ensures.keys shared.ensures.begin in
+    let base = old_past count stood in
+    let seen = seen_past table below count stood in
+    let cs = changes_at below changes in
+    let new = c.at_fork.new.store in
+    let whole = top_visits (seen_past table c.args.depth 0 stood) (old_past 0 stood) (changes_at c.args.depth changes) in
+    let forks = led-none count stood c.in-None.ensures (reaches-begin c.args.depth changes count stood shared.ensures.begin) in
+    let keeps = path-keeps table c.args.depth count changes d stood c.requires.some shared.ensures.deeper shared.ensures.keys shared.ensures.begin c.in_ok-placed-in-None.ensures.keeps in
+    IfOk-weaker c.lower-in-None.result _ (λ _. TopKeeps c.args.depth (seen_past table c.args.depth 0 stood) (old_past 0 stood) (changes_at c.args.depth changes)) (λ lower e. keeps) c.lower-in-None.ensures.stated
+
+pub at_nibbles-loop-nibble-init : goal.at_nibbles-loop-nibble-init
+at_nibbles-loop-nibble-init g t c =
+    let store = g.T.Texts.store in
+    let ref = option_map value_of c.args.former in
+    let table = store.texts c.args.store.now in
+    let places = place_behind table c.args.depth c.args.parent.now in
+    subst (λ items. IsGathered store c.args.depth ref places c.args.changes.now c.ending.result.1.now 0 items 0 c.args.store.now c.args.store.now c.args.ledger.now c.value_after.new.ledger) (sym c.new-children.ensures.items)
+    (gathered-none store c.args.depth ref places c.args.changes.now c.ending.result.1.now c.args.store.now c.args.ledger.now c.value_after.new.ledger c.ending.result.0 c.ending.ensures.value c.ending.ensures.left c.ending.ensures.fewer c.requires.named c.in_ok-value.ensures.grows c.in_ok-value.ensures.names (g.met.T.Texts.alike_itself c.args.store.now))
+
+pub at_nibbles-loop-nibble-preserved : goal.at_nibbles-loop-nibble-preserved
+at_nibbles-loop-nibble-preserved g t c =
+    let store = g.T.Texts.store in
+    let ref = option_map value_of c.args.former in
+    let table = store.texts c.args.store.now in
+    let places = place_behind table c.args.depth c.args.parent.now in
+    let texts = g.met.T.Texts.alike_texts c.args.store.now c.loop-nibble.store c.loop-nibble.invariant.carries.left.same in
+    let now = store.texts c.loop-nibble.store in
+    let place = c.behind-place.ensures.place now c.args.depth c.requires.parent ∙ ap (λ t. place_behind t c.args.depth c.args.parent.now c.loop-nibble.nibble) (sym texts) in
+    let more = turn-more store c.args.depth ref places c.args.changes.now c.loop-nibble.rest.now c.loop-nibble.nibble c.loop-nibble.children.items c.loop-nibble.stated c.args.store.now c.loop-nibble.store c.args.ledger.now c.loop-nibble.ledger c.loop-nibble.invariant c.split_at.result.0.now c.split_at.result.1.now c.run_length.result c.run_length.ensures c.split_at.ensures.front c.split_at.ensures.back now c.behind-place.result place c.at_former.new.store c.at_former.new.ledger (c.in_ok-child.child, c.in_ok-child.used) c.in_ok-child.ensures.child g.met.T.Texts.alike_onward c.in_ok-child.ensures.carries c.push.new.children.items c.in_ok-push.ensures.items c.loop-nibble-test.true in
+    subst (λ n. IsGathered store c.args.depth ref places c.args.changes.now c.split_at.result.1.now (c.loop-nibble.nibble + 1) c.push.new.children.items n c.args.store.now c.at_former.new.store c.args.ledger.now c.at_former.new.ledger) (sym c.saturating_add-stated.ensures) more

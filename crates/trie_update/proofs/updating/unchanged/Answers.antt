@@ -1,0 +1,9 @@
+use Rattle.std.proofs.Common.{ap, sym, ◌∙◌}
+use Rattle.update_model.specs.Joins.{known}
+use Rattle.trie_update.specs.Placed.{kid_before}
+use Rattle.trie_update.specs.Subs.{top_of_sub}
+use Rattle.trie_update.proofs.PlaceFacts.{sub-top}
+use Rattle.trie_update.proofs.updating.unchanged.Goals as goal
+
+pub returns-in-Ok-clause-child : goal.returns-in-Ok-clause-child
+returns-in-Ok-clause-child c = ap (λ s. known (top_of_sub s)) c.in-Ok.ensures ∙ ap known (sub-top c.in-Known.old) ∙ sym (ap kid_before c.in-Known.is)

@@ -1,0 +1,277 @@
+ghost use Rattle.std.specs.Prelude.{◌≡◌, ◌+◌, ◌^◌, ◌<◌, [], ◌∷◌, length, drop, option_map, Some, OnOk, IfOk, IfErr};
+ghost use Rattle.node_codec.specs.Meanings.{value_of};
+ghost use Rattle.update_model.specs.Sound.{StandsAt};
+ghost use Rattle.update_model.specs.Tops.{lowered, pending, top_digest, top_usage};
+ghost use Rattle.update_model.specs.Joins as model;
+ghost use Rattle.update_model.specs.Joins.{branched, joint, kid_name, kid_pending, kid_top, kid_usage, there};
+ghost use Rattle.trie_shape.specs.declared.sub.Sub.TheVariants.{Branch};
+ghost use Rattle.trie_update.specs.Accounts.{Gains};
+ghost use Rattle.trie_update.specs.Adds.{Adds};
+ghost use Rattle.trie_update.specs.Subs.{CanFork, CanJoin, IsFew, IsKnown, KidStands, childless, kid_at, kid_of, more, top_of_sub};
+ghost use Rattle.trie_update.specs.declared.errors.UpdateError.TheVariants.{NoMemory};
+
+use crate::errors::UpdateError;
+use crate::ledger::Ledger;
+use base_core::{Digest, Text};
+use node_codec::{Kids, ValueRef};
+use std::alloc::{AllocError, Global};
+use std::collections::VecDeque;
+use trie_shape::{CloseError, Closed, Sub, close_branch};
+
+/// A child of a branch after the batch.
+#[derive(Debug, Drop)]
+pub(crate) enum Child {
+    /// It was not visited, and only its name is known.
+    Named(Digest),
+    /// Its top is known. It is empty where there is no child.
+    Known(Sub),
+}
+
+/// What is left of a branch: its value, and what stands at its sixteen nibbles.
+#[derive(Debug, Drop)]
+pub(crate) struct Left {
+    pub(crate) value: Option<ValueRef>,
+    pub(crate) children: Vec<Child>,
+}
+
+/// How many children are there, and which one where it is alone.
+#[derive(Clone, Copy, Debug)]
+pub(crate) enum Few {
+    Zero,
+    One(usize),
+    More,
+}
+
+pub(crate) fn count_few(children: &[Child]) -> Few
+    requires { length children.now ≡ 16 }
+    ensures { IsFew (there (kid_at children.now)) result }
+{
+    let mut few = Few::Zero;
+    for nibble in 0..16 {
+        if is_there(&children[nibble]) {
+            few = one_more(few, nibble);
+        }
+    }
+    few
+}
+
+fn is_there(child: &Child) -> bool
+    ensures { result ≡ model.is_there (kid_of child.now) }
+{
+    match child {
+        Child::Named(_) => true,
+        Child::Known(Sub::Empty) => false,
+        Child::Known(Sub::Leaf { .. }) => true,
+        Child::Known(Sub::Branch { .. }) => true,
+        Child::Known(Sub::Extension { .. }) => true,
+    }
+}
+
+fn one_more(few: Few, nibble: usize) -> Few
+    ensures { result ≡ more few nibble }
+{
+    match few {
+        Few::Zero => Few::One(nibble),
+        Few::One(_) => Few::More,
+        Few::More => Few::More,
+    }
+}
+
+/// The subtree of what is left of a branch, whose children that were not visited use so much
+/// together. A lone child takes the branch's place.
+#[inline(never)]
+pub(crate) fn join(
+    alloc: Global,
+    ledger: &mut Ledger,
+    left: Left,
+    kept_usage: u64,
+) -> Result<Sub, UpdateError>
+    requires sixteen { length left.children.items ≡ 16 }
+    requires joins { CanJoin (option_map value_of left.value) (kid_at left.children.items) kept_usage }
+    ensures top { IfOk result (λ sub. top_of_sub sub ≡ (joint (option_map value_of left.value) (kid_at left.children.items) kept_usage).top) }
+    ensures adds { OnOk result (Adds ledger.old ledger.new (joint (option_map value_of left.value) (kid_at left.children.items) kept_usage).made [] 0 0) }
+    ensures error { IfErr result (λ error. error ≡ NoMemory) }
+{
+    let Left { value, children } = left;
+    match count_few(&children) {
+        Few::Zero => Ok(no_children(alloc, value)),
+        Few::One(nibble) => one_child(alloc, ledger, value, children, nibble, kept_usage),
+        Few::More => fork(alloc, ledger, value, children, kept_usage),
+    }
+}
+
+fn no_children(alloc: Global, value: Option<ValueRef>) -> Sub
+    ensures { top_of_sub result ≡ childless (option_map value_of value) }
+{
+    match value {
+        None => Sub::Empty,
+        Some(value) => Sub::Leaf {
+            path: Text::from_bytes(Vec::new(alloc)),
+            value,
+        },
+    }
+}
+
+/// What is left with one child, which takes the branch's place where there is no value.
+fn one_child(
+    alloc: Global,
+    ledger: &mut Ledger,
+    value: Option<ValueRef>,
+    children: Vec<Child>,
+    nibble: usize,
+    kept_usage: u64,
+) -> Result<Sub, UpdateError>
+    requires sixteen { length children.items ≡ 16 }
+    requires joins { CanJoin (option_map value_of value) (kid_at children.items) kept_usage }
+    requires one { there (kid_at children.items) ≡ nibble ∷ [] }
+    ensures top { IfOk result (λ sub. top_of_sub sub ≡ (joint (option_map value_of value) (kid_at children.items) kept_usage).top) }
+    ensures adds { OnOk result (Adds ledger.old ledger.new (joint (option_map value_of value) (kid_at children.items) kept_usage).made [] 0 0) }
+    ensures error { IfErr result (λ error. error ≡ NoMemory) }
+{
+    match value {
+        None => lone(alloc, children, nibble),
+        Some(value) => fork(alloc, ledger, Some(value), children, kept_usage),
+    }
+}
+
+/// The child that is all that is left, below its nibble.
+fn lone(alloc: Global, mut children: Vec<Child>, nibble: usize) -> Result<Sub, UpdateError>
+    requires sixteen { length children.items ≡ 16 }
+    requires inside { nibble < 16 }
+    requires known { IsKnown (kid_at children.items nibble) }
+    ensures top { IfOk result (λ sub. top_of_sub sub ≡ lowered (nibble ∷ []) (kid_top (kid_at children.items nibble))) }
+    ensures error { IfErr result (λ error. error ≡ NoMemory) }
+{
+    match children.swap_remove(nibble) {
+        Child::Known(sub) => under(alloc, sub, &[nibble as u8]),
+        // One that was not visited was merged before.
+        Child::Named(_) => unreachable!(),
+    }
+}
+
+/// Puts nibbles before a subtree.
+pub(crate) fn under(alloc: Global, sub: Sub, nibbles: &[u8]) -> Result<Sub, UpdateError>
+    ensures top { IfOk result (λ lower. top_of_sub lower ≡ lowered nibbles.now (top_of_sub sub)) }
+    ensures error { IfErr result (λ error. error ≡ NoMemory) }
+{
+    match sub.under(alloc, nibbles) {
+        Ok(sub) => Ok(sub),
+        Err(AllocError) => Err(UpdateError::NoMemory),
+    }
+}
+
+/// A branch. The records of its children are written, and then its own.
+fn fork(
+    alloc: Global,
+    ledger: &mut Ledger,
+    value: Option<ValueRef>,
+    children: Vec<Child>,
+    kept_usage: u64,
+) -> Result<Sub, UpdateError>
+    requires sixteen { length children.items ≡ 16 }
+    requires forks { CanFork (option_map value_of value) (kid_at children.items) kept_usage }
+    ensures top { IfOk result (λ sub. top_of_sub sub ≡ (branched (option_map value_of value) (kid_at children.items) kept_usage).top) }
+    ensures adds { OnOk result (Adds ledger.old ledger.new (branched (option_map value_of value) (kid_at children.items) kept_usage).made [] 0 0) }
+    ensures error { IfErr result (λ error. error ≡ NoMemory) }
+{
+    let mut kids = no_kids(alloc)?;
+    let mut usage = kept_usage;
+    let mut rest = VecDeque::from_vec(children);
+    for nibble in 0..16 {
+        let (name, used) = next_name(alloc, ledger, &mut rest)?;
+        kids.set(nibble, name);
+        usage += used;
+    }
+    match close_branch(alloc, value, &kids, usage) {
+        Ok(closed) => branch_written(ledger, closed),
+        Err(CloseError::NoMemory) => Err(UpdateError::NoMemory),
+        Err(CloseError::Usage) => unreachable!(),
+    }
+}
+
+#[inline(never)]
+fn no_kids(alloc: Global) -> Result<Box<Kids>, UpdateError>
+    ensures sixteen { IfOk result (λ kids. length kids.value ≡ 16) }
+    ensures error { IfErr result (λ error. error ≡ NoMemory) }
+{
+    match Box::new(alloc, Kids::NONE) {
+        Ok(kids) => Ok(kids),
+        Err(_) => Err(UpdateError::NoMemory),
+    }
+}
+
+/// The name of the next child and its usage, or 0 where only its name is known.
+fn next_name(
+    alloc: Global,
+    ledger: &mut Ledger,
+    children: &mut VecDeque<Child>,
+) -> Result<(Option<Digest>, u64), UpdateError>
+    requires some { 0 < length children.old.items }
+    requires stands { KidStands (kid_at children.old.items 0) }
+    requires fits { kid_usage (kid_at children.old.items 0) < 2 ^ 64 }
+    ensures name { IfOk result (λ name. option_map (λ d. d.0) name.0 ≡ kid_name (kid_at children.old.items 0)) }
+    ensures used { IfOk result (λ name. name.1 ≡ kid_usage (kid_at children.old.items 0)) }
+    ensures adds { OnOk result (Adds ledger.old ledger.new (kid_pending (kid_at children.old.items 0)) [] 0 0) }
+    ensures rest { OnOk result (children.new.items ≡ drop 1 children.old.items) }
+    ensures error { IfErr result (λ error. error ≡ NoMemory) }
+{
+    match children.pop_front() {
+        Some(Child::Named(digest)) => Ok((Some(digest), 0)),
+        Some(Child::Known(sub)) => recorded(alloc, ledger, sub),
+        None => unreachable!(),
+    }
+}
+
+/// Writes the record of a subtree that has none yet. Its name, if it has a pair, and its usage.
+pub(crate) fn recorded(
+    alloc: Global,
+    ledger: &mut Ledger,
+    sub: Sub,
+) -> Result<(Option<Digest>, u64), UpdateError>
+    requires stands { StandsAt 0 (top_of_sub sub) }
+    requires fits { top_usage (top_of_sub sub) < 2 ^ 64 }
+    ensures name { IfOk result (λ name. option_map (λ d. d.0) name.0 ≡ top_digest (top_of_sub sub)) }
+    ensures used { IfOk result (λ name. name.1 ≡ top_usage (top_of_sub sub)) }
+    ensures adds { OnOk result (Adds ledger.old ledger.new (pending (top_of_sub sub)) [] 0 0) }
+    ensures error { IfErr result (λ error. error ≡ NoMemory) }
+{
+    match sub {
+        Sub::Empty => Ok((None, 0)),
+        Sub::Branch { digest, usage } => Ok((Some(digest), usage)),
+        sub => match sub.close(alloc) {
+            Ok(Some(closed)) => written(ledger, closed),
+            Ok(None) => unreachable!(),
+            Err(CloseError::NoMemory) => Err(UpdateError::NoMemory),
+            Err(CloseError::Usage) => unreachable!(),
+        },
+    }
+}
+
+/// A record that was written, its name and its usage. It is gained.
+fn written(ledger: &mut Ledger, closed: Closed) -> Result<(Option<Digest>, u64), UpdateError>
+    ensures name { IfOk result (λ name. name ≡ (Some closed.digest, closed.usage)) }
+    ensures gains { OnOk result (Gains ledger.old ledger.new closed.digest closed.text) }
+    ensures error { IfErr result (λ error. error ≡ NoMemory) }
+{
+    let Closed {
+        text,
+        digest,
+        usage,
+    } = closed;
+    ledger.gain(digest, text)?;
+    Ok((Some(digest), usage))
+}
+
+fn branch_written(ledger: &mut Ledger, closed: Closed) -> Result<Sub, UpdateError>
+    ensures branch { IfOk result (λ sub. sub ≡ Branch closed.digest closed.usage) }
+    ensures gains { OnOk result (Gains ledger.old ledger.new closed.digest closed.text) }
+    ensures error { IfErr result (λ error. error ≡ NoMemory) }
+{
+    let Closed {
+        text,
+        digest,
+        usage,
+    } = closed;
+    ledger.gain(digest, text)?;
+    Ok(Sub::Branch { digest, usage })
+}

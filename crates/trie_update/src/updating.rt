@@ -1,0 +1,380 @@
+ghost use Rattle.std.specs.Prelude.{◌≡◌, ◌+◌, ◌≤◌, ◌<◌, ℕ, false, ◌∷◌, ◌++◌, [], length, take, drop, option_map, slice_index_or, IfSome, OnOk, IfOk, IfErr};
+ghost use Rattle.byte_model.specs.Nibbles.{nibbles};
+ghost use Rattle.byte_model.specs.Node.{longest_value};
+ghost use Rattle.byte_model.specs.PackedPath.{longest_path};
+ghost use Rattle.batch_model.specs.Changes.{most_changes};
+ghost use Rattle.visit_model.specs.Seen.{Seen, branch, seen_at, seen_child, stated_usage};
+ghost use Rattle.change_model.specs.Visits.{before, branch_cost, closed, most_usage, visits_at, visits_below};
+ghost use Rattle.node_codec.specs.Meanings.{children_in, value_of};
+ghost use Rattle.update_model.specs.Tops.{lowered};
+ghost use Rattle.update_model.specs.Updates.{branch_outcome, fork_outcome, laid, updated};
+ghost use Rattle.trie_update.specs.Accounts.{CanCount, IsNamed};
+ghost use Rattle.trie_update.specs.Carries.{Carries};
+ghost use Rattle.trie_update.specs.ChangesAt.{AreChangesAt, Lent, changes_at};
+ghost use Rattle.trie_update.specs.Places.{FitsFormer, FitsParent, FitsTop, Keeps, NoBranch, Reaches, TopKeeps, led_by, old_past, place_behind, place_of, place_visits, seen_past, top_stated, top_visits};
+ghost use Rattle.trie_update.specs.Placed.{IsChild, IsParted, IsPlaced, branch_inside, kid_before, run_at};
+ghost use Rattle.trie_update.specs.Subs.{kid_of, top_of_sub};
+ghost use Rattle.trie_update.specs.declared.errors.UpdateError.TheVariants.{NoMemory};
+
+use crate::errors::UpdateError;
+use crate::former::{Former, Parent};
+use crate::joining::{Child, Left, join, under};
+use crate::ledger::Ledger;
+use crate::merging::settle;
+use crate::old::{Old, shared_length};
+use crate::parting::{KeyChange, ending, run_length};
+use crate::values::value_after;
+use crate::visiting::{Visited, states_enough, visit};
+use base_core::Digest;
+use nibble_keys::Nibbles;
+use node_codec::{Kids, Node, ValueRef};
+use std::alloc::{AllocError, Global};
+use text_store::Texts;
+use trie_shape::Sub;
+
+/// What a place has become, and what its record stated where it was visited.
+#[derive(Debug, Drop)]
+pub(crate) struct Placed {
+    pub(crate) sub: Sub,
+    pub(crate) stated: u64,
+}
+
+/// Visits the place under a digest, at which some keys are changed.
+#[cycle(update)]
+pub(crate) fn at_digest<T: Texts>(
+    alloc: Global,
+    store: &mut T,
+    ledger: &mut Ledger,
+    digest: &Digest,
+    changes: &[KeyChange<'_>],
+    depth: u64,
+    after_extension: bool,
+) -> Result<Placed, UpdateError>
+    requires changes { AreChangesAt depth changes.now }
+    requires some { 1 ≤ length changes.now }
+    requires few { length changes.now ≤ most_changes }
+    requires room { CanCount ledger.old (length changes.now) }
+    requires named { IsNamed ledger.old }
+    ensures carries { Carries T.store store.old store.new (visits_at (seen_at (T.store.texts store.old) depth after_extension digest.now.0) (changes_at depth changes.now)) result }
+    ensures placed { let seen = seen_at (T.store.texts store.old) depth after_extension digest.now.0 in
+        IfOk result (λ placed. IsPlaced (updated seen (changes_at depth changes.now)) (stated_usage seen) (length changes.now) ledger.old ledger.new placed) }
+    ensures keeps { OnOk result (Keeps depth (seen_at (T.store.texts store.old) depth after_extension digest.now.0) (changes_at depth changes.now)) }
+{
+    let Visited { node, stated, own } = visit(alloc, store, digest, depth, after_extension)?;
+    ledger.lose(*digest)?;
+    match node {
+        Node::Leaf { path, value } => {
+            let old = Old::Leaf {
+                path: path.as_slice(),
+                value,
+            };
+            at_old(
+                alloc, store, ledger, digest, &old, stated, own, changes, depth,
+            )
+        }
+        Node::Extension { path, child } => {
+            let old = Old::Extension {
+                path: path.as_slice(),
+                child,
+                child_usage: stated.saturating_sub(own),
+            };
+            at_old(
+                alloc, store, ledger, digest, &old, stated, own, changes, depth,
+            )
+        }
+        Node::Branch { value, kids } => at_branch(
+            alloc, store, ledger, digest, value, &kids, stated, own, changes, depth,
+        ),
+    }
+}
+
+/// A leaf or an extension that was read, whose record states so much: no less than it costs by itself
+/// and its branch states, if that was visited.
+#[cycle(update)]
+fn at_old<T: Texts>(
+    alloc: Global,
+    store: &mut T,
+    ledger: &mut Ledger,
+    digest: &Digest,
+    old: &Old<'_>,
+    stated: u64,
+    own: u64,
+    changes: &[KeyChange<'_>],
+    depth: u64,
+) -> Result<Placed, UpdateError>
+    requires changes { AreChangesAt depth changes.now }
+    requires some { 1 ≤ length changes.now }
+    requires few { length changes.now ≤ most_changes }
+    requires room { CanCount ledger.old (length changes.now) }
+    requires named { IsNamed ledger.old }
+    requires old { FitsTop depth (old_past 0 old.now) }
+    requires most { stated ≤ most_usage }
+    ensures carries { let below = seen_past (T.store.texts store.old) depth 0 old.now in
+        Carries T.store store.old store.new (before (top_visits below (old_past 0 old.now) (changes_at depth changes.now)) (closed digest.now.0 stated (own + top_stated below (old_past 0 old.now) (changes_at depth changes.now)))) result }
+    ensures placed { let below = seen_past (T.store.texts store.old) depth 0 old.now in
+        IfOk result (λ placed. IsPlaced (laid (λ cs. updated below cs) (old_past 0 old.now) (changes_at depth changes.now)) stated (length changes.now) ledger.old ledger.new placed) }
+    ensures keeps { OnOk result (TopKeeps depth (seen_past (T.store.texts store.old) depth 0 old.now) (old_past 0 old.now) (changes_at depth changes.now)) }
+{
+    let placed = at_path(alloc, store, ledger, old, changes, depth)?;
+    states_enough(digest, stated, own.saturating_add(placed.stated))?;
+    Ok(Placed {
+        sub: placed.sub,
+        stated,
+    })
+}
+
+/// What stood before a path is used up or parts from the changed keys, all of which go on from here.
+#[cycle(update)]
+pub(crate) fn at_path<T: Texts>(
+    alloc: Global,
+    store: &mut T,
+    ledger: &mut Ledger,
+    old: &Old<'_>,
+    changes: &[KeyChange<'_>],
+    depth: u64,
+) -> Result<Placed, UpdateError>
+    requires changes { AreChangesAt depth changes.now }
+    requires some { 1 ≤ length changes.now }
+    requires few { length changes.now ≤ most_changes }
+    requires room { CanCount ledger.old (length changes.now) }
+    requires named { IsNamed ledger.old }
+    requires old { FitsTop depth (old_past 0 old.now) }
+    ensures carries { Carries T.store store.old store.new (top_visits (seen_past (T.store.texts store.old) depth 0 old.now) (old_past 0 old.now) (changes_at depth changes.now)) result }
+    ensures placed { let below = seen_past (T.store.texts store.old) depth 0 old.now in
+        IfOk result (λ placed. IsPlaced (laid (λ cs. updated below cs) (old_past 0 old.now) (changes_at depth changes.now)) (top_stated below (old_past 0 old.now) (changes_at depth changes.now)) (length changes.now) ledger.old ledger.new placed) }
+    ensures keeps { OnOk result (TopKeeps depth (seen_past (T.store.texts store.old) depth 0 old.now) (old_past 0 old.now) (changes_at depth changes.now)) }
+{
+    let shared = shared_length(old, changes, depth);
+    let below = depth + shared as u64;
+    match led_to(old, shared) {
+        Some(child) => {
+            let placed = at_digest(alloc, store, ledger, &child, changes, below, true)?;
+            lower(alloc, placed, changes, depth, shared)
+        }
+        None => {
+            let placed = at_fork(alloc, store, ledger, old, shared, changes, below)?;
+            lower(alloc, placed, changes, depth, shared)
+        }
+    }
+}
+
+/// The branch that is reached after so many nibbles, if one is.
+fn led_to(old: &Old<'_>, count: usize) -> Option<Digest>
+    ensures { result ≡ led_by count old.now }
+{
+    match old {
+        Old::Extension { path, child, .. } => {
+            if path.len() == count {
+                Some(*child)
+            } else {
+                None
+            }
+        }
+        Old::Nothing => None,
+        Old::Leaf { .. } => None,
+    }
+}
+
+/// Puts so many nibbles of the changed keys, which all have them, before what a place has become.
+#[inline(never)]
+fn lower(
+    alloc: Global,
+    placed: Placed,
+    changes: &[KeyChange<'_>],
+    depth: u64,
+    count: usize,
+) -> Result<Placed, UpdateError>
+    requires changes { AreChangesAt (depth + count) changes.now }
+    requires some { 1 ≤ length changes.now }
+    ensures top { IfOk result (λ lower. (d : Lent) → top_of_sub lower.sub ≡ lowered (take count (drop depth (nibbles (slice_index_or changes.now 0 d).0.now))) (top_of_sub placed.sub)) }
+    ensures stated { IfOk result (λ lower. lower.stated ≡ placed.stated) }
+    ensures error { IfErr result (λ error. error ≡ NoMemory) }
+{
+    let (key, _) = changes[0];
+    let Placed { sub, stated } = placed;
+    match nibbles_of(alloc, key, depth, count) {
+        Ok(prefix) => {
+            let sub = under(alloc, sub, &prefix)?;
+            Ok(Placed { sub, stated })
+        }
+        Err(AllocError) => Err(UpdateError::NoMemory),
+    }
+}
+
+/// Some nibbles of a key, one to a byte.
+fn nibbles_of(alloc: Global, key: &[u8], from: u64, count: usize) -> Result<Vec<u8>, AllocError>
+    requires { from + count ≤ length (nibbles key.now) }
+    ensures { IfOk result (λ some. some.items ≡ take count (drop from (nibbles key.now))) }
+{
+    let path = Nibbles::new(key).rest(from);
+    let mut nibbles = Vec::with_capacity(alloc, count)?;
+    for i in 0..count {
+        nibbles.push(path.at(i as u64))?;
+    }
+    Ok(nibbles)
+}
+
+/// Where the changed keys part, or one of them ends, below so many nibbles of what stood there before,
+/// which is no branch.
+#[cycle(update)]
+fn at_fork<T: Texts>(
+    alloc: Global,
+    store: &mut T,
+    ledger: &mut Ledger,
+    old: &Old<'_>,
+    shared: usize,
+    changes: &[KeyChange<'_>],
+    depth: u64,
+) -> Result<Placed, UpdateError>
+    requires changes { AreChangesAt depth changes.now }
+    requires some { 1 ≤ length changes.now }
+    requires few { length changes.now ≤ most_changes }
+    requires room { CanCount ledger.old (length changes.now) }
+    requires named { IsNamed ledger.old }
+    requires old { FitsTop depth (old_past shared old.now) }
+    requires reaches { Reaches shared old.now }
+    requires forks { NoBranch (old_past shared old.now) }
+    ensures carries { Carries T.store store.old store.new (top_visits (seen_past (T.store.texts store.old) depth shared old.now) (old_past shared old.now) (changes_at depth changes.now)) result }
+    ensures placed { let below = seen_past (T.store.texts store.old) depth shared old.now in
+        IfOk result (λ placed. IsPlaced (fork_outcome (laid (λ cs. updated below cs)) (old_past shared old.now) (changes_at depth changes.now)) (top_stated below (old_past shared old.now) (changes_at depth changes.now)) (length changes.now) ledger.old ledger.new placed) }
+    ensures keeps { OnOk result (TopKeeps depth (seen_past (T.store.texts store.old) depth shared old.now) (old_past shared old.now) (changes_at depth changes.now)) }
+{
+    let value = old.value_at(shared);
+    let parent = Parent::Path(*old, shared);
+    let (left, stated) = at_nibbles(alloc, store, ledger, value, &parent, changes, depth)?;
+    let sub = join(alloc, ledger, left, 0)?;
+    Ok(Placed { sub, stated })
+}
+
+/// A branch that was read, whose record states so much.
+#[cycle(update)]
+fn at_branch<T: Texts>(
+    alloc: Global,
+    store: &mut T,
+    ledger: &mut Ledger,
+    digest: &Digest,
+    value: Option<ValueRef>,
+    kids: &Kids,
+    stated: u64,
+    own: u64,
+    changes: &[KeyChange<'_>],
+    depth: u64,
+) -> Result<Placed, UpdateError>
+    requires changes { AreChangesAt depth changes.now }
+    requires some { 1 ≤ length changes.now }
+    requires few { length changes.now ≤ most_changes }
+    requires room { CanCount ledger.old (length changes.now) }
+    requires named { IsNamed ledger.old }
+    requires deep { depth + 1 ≤ longest_path }
+    requires most { stated ≤ most_usage }
+    requires own { own ≡ branch_cost (option_map value_of value) }
+    requires small { IfSome value (λ v. v.length ≤ longest_value) }
+    ensures carries { (children : ℕ → Seen) → ((x : ℕ) → x < 16 → children x ≡ seen_child (seen_at (T.store.texts store.old) (depth + 1) false) (children_in kids.now x)) →
+        Carries T.store store.old store.new (branch_inside digest.now.0 stated (option_map value_of value) children (changes_at depth changes.now)) result }
+    ensures placed { (children : ℕ → Seen) → ((x : ℕ) → x < 16 → children x ≡ seen_child (seen_at (T.store.texts store.old) (depth + 1) false) (children_in kids.now x)) →
+        IfOk result (λ placed. IsPlaced (branch_outcome stated (option_map value_of value) children (changes_at depth changes.now) (λ x. updated (children x) (run_at (changes_at depth changes.now) x))) stated (length changes.now) ledger.old ledger.new placed) }
+    ensures keeps { (children : ℕ → Seen) → ((x : ℕ) → x < 16 → children x ≡ seen_child (seen_at (T.store.texts store.old) (depth + 1) false) (children_in kids.now x)) →
+        OnOk result (Keeps depth (branch digest.now.0 stated (option_map value_of value) children) (changes_at depth changes.now)) }
+{
+    let parent = Parent::Branch(kids);
+    let (left, below) = at_nibbles(alloc, store, ledger, value, &parent, changes, depth)?;
+    let above = own.saturating_add(below);
+    let sub = settle(alloc, store, ledger, digest, left, stated, above, depth + 1)?;
+    Ok(Placed { sub, stated })
+}
+
+/// What is left behind the nibbles, and what the places there stated that were visited.
+#[cycle(update)]
+fn at_nibbles<T: Texts>(
+    alloc: Global,
+    store: &mut T,
+    ledger: &mut Ledger,
+    former: Option<ValueRef>,
+    parent: &Parent<'_>,
+    changes: &[KeyChange<'_>],
+    depth: u64,
+) -> Result<(Left, u64), UpdateError>
+    requires changes { AreChangesAt depth changes.now }
+    requires some { 1 ≤ length changes.now }
+    requires few { length changes.now ≤ most_changes }
+    requires room { CanCount ledger.old (length changes.now) }
+    requires named { IsNamed ledger.old }
+    requires parent { FitsParent depth parent.now }
+    ensures carries { let places = place_behind (T.store.texts store.old) depth parent.now in
+        Carries T.store store.old store.new (visits_below (λ x. place_visits (places x) (run_at (changes_at depth changes.now) x)) 16) result }
+    ensures parted { IfOk result (λ parted. IsParted depth (option_map value_of former) (place_behind (T.store.texts store.old) depth parent.now) (changes_at depth changes.now) ledger.old ledger.new parted) }
+{
+    let (here, mut rest) = ending(changes, depth);
+    let value = value_after(alloc, ledger, former, here)?;
+    let mut children = Vec::new(alloc);
+    let mut stated = 0u64;
+    for nibble in 0..16 {
+        let (run, others) = rest.split_at(run_length(rest, depth, nibble));
+        rest = others;
+        let place = parent.behind(nibble);
+        let (child, used) = at_former(alloc, store, ledger, &place, run, depth + 1)?;
+        stated = stated.saturating_add(used);
+        push(&mut children, child)?;
+    }
+    Ok((Left { value, children }, stated))
+}
+
+fn push(children: &mut Vec<Child>, child: Child) -> Result<(), UpdateError>
+    ensures items { OnOk result (children.new.items ≡ children.old.items ++ child ∷ []) }
+    ensures error { IfErr result (λ error. error ≡ NoMemory) }
+{
+    match children.push(child) {
+        Ok(()) => Ok(()),
+        Err(_) => Err(UpdateError::NoMemory),
+    }
+}
+
+/// What stood behind a nibble, by the changes there, if there are some, and what it stated where it
+/// was visited.
+#[cycle(update)]
+fn at_former<T: Texts>(
+    alloc: Global,
+    store: &mut T,
+    ledger: &mut Ledger,
+    former: &Former<'_>,
+    changes: &[KeyChange<'_>],
+    depth: u64,
+) -> Result<(Child, u64), UpdateError>
+    requires changes { AreChangesAt depth changes.now }
+    requires few { length changes.now ≤ most_changes }
+    requires room { CanCount ledger.old (length changes.now) }
+    requires named { IsNamed ledger.old }
+    requires former { FitsFormer depth former.now }
+    ensures carries { Carries T.store store.old store.new (place_visits (place_of (T.store.texts store.old) depth former.now) (changes_at depth changes.now)) result }
+    ensures child { IfOk result (λ child. IsChild depth (place_of (T.store.texts store.old) depth former.now) (changes_at depth changes.now) ledger.old ledger.new child) }
+{
+    if changes.is_empty() {
+        return Ok((unchanged(alloc, former)?, 0));
+    }
+    match former {
+        Former::Known(old) => {
+            let Placed { sub, stated } = at_path(alloc, store, ledger, old, changes, depth)?;
+            Ok((Child::Known(sub), stated))
+        }
+        Former::Named(digest) => {
+            let Placed { sub, stated } = at_digest(
+                alloc, store, ledger, digest, changes, depth, false,
+            )?;
+            Ok((Child::Known(sub), stated))
+        }
+    }
+}
+
+/// The child that stood behind a nibble, where no key is changed.
+fn unchanged(alloc: Global, former: &Former<'_>) -> Result<Child, UpdateError>
+    ensures child { IfOk result (λ child. kid_of child ≡ kid_before former.now) }
+    ensures error { IfErr result (λ error. error ≡ NoMemory) }
+{
+    match former {
+        Former::Known(old) => match old.sub(alloc) {
+            Ok(sub) => Ok(Child::Known(sub)),
+            Err(AllocError) => Err(UpdateError::NoMemory),
+        },
+        Former::Named(digest) => Ok(Child::Named(*digest)),
+    }
+}
