@@ -1,14 +1,14 @@
 -- The list of entries in a tree against the map that it is seen as.
-use Rattle.std.proofs.Common.{◌≡◌, ℕ, ◌+◌, ◌<◌, ◌≤◌, Bool, true, false, cond, List, [], ◌∷◌, length, Option, None, Some, Ordering, Less, Equal, Greater, Vec, is_some, IsTrue, T, ◌⊎◌, inl, inr, Result, Ok, Err, OnOk, OnErr, Bor, refl, sym, ap, subst, ◌∙◌, arith, Fits, w8, get_or, suc}
+use Rattle.std.proofs.Common.{◌≡◌, ℕ, ◌+◌, ◌<◌, ◌≤◌, Bool, true, false, cond, ◌&&◌, List, [], ◌∷◌, length, Option, IsSome, IfSome, IfNone, None, Some, Ordering, Less, Equal, Greater, Vec, is_some, IsTrue, T, ◌⊎◌, inl, inr, Result, Ok, Err, OnOk, OnErr, Bor, refl, sym, ap, subst, ◌∙◌, arith, Fits, w8, get_or, suc}
 use Rattle.std.proofs.lemmas.List.{length-map}
 use Rattle.std.specs.Ordering.{nat_cmp, is_eq, match_ordering}
-use Rattle.std.specs.List.{AllByRecursion}
+use Rattle.std.specs.List.{AllByRecursion, cons_option}
 use Rattle.std.specs.Cmp.Lexicographic.{slice_cmp, nat_list_cmp_total}
 use Rattle.std.specs.Map.{lookup}
 use Rattle.std.specs.BTreeMap.{insert_entry, is_at}
 use Rattle.std.proofs.lemmas.Bool.Decides.{nat_tests}
 use Rattle.std.specs.FinMap.{entries, insert, contains_key, get, empty, entries-from_sorted, entries-insert, get-entries, same_entries_map, len-empty, len-entries}
-use Rattle.std.specs.FinMap.Entries.{put, find, is_sorted, is_sorted-put, length-put, by_order}
+use Rattle.std.specs.FinMap.Entries.{below_all, put, find, is_sorted, is_sorted-put, length-put, by_order}
 use Rattle.std.specs.declared.alloc.Global.{Global}
 use Rattle.std.proofs.lemmas.Iterator.Consumers.{nth_from_yields_List, YieldsList-from_shown}
 use Rattle.std.specs.Iterator.{SkipsThenYields}
@@ -161,6 +161,44 @@ module _ {X : Type 0} where
         → IsKeptSorted IsEntry bound es most → OnOk r (after ≡ insert_entry by_items es k v) → OnErr r (after ≡ es) → refusal_of (shown_map es) most k.items value ≡ None → IsEntry (k.items, v) → IsKeptSorted IsEntry bound after most
     kept-taken (Ok x) es after most k v value kept put_in same taken new = kept-put es after most k v kept put_in new (taken_room (shown_map es) most k.items value taken)
     kept-taken {bound} (Err x) es after most k v value kept put_in same taken new = subst (λ xs. IsKeptSorted IsEntry bound xs most) (sym same) kept
+
+    -- the first entry was taken out, or there was none
+    pub kept-first : {bound : ℕ} (first : Option (Vec ℕ Global × X)) (es after : Kept X) (most : ℕ)
+        → IsKeptSorted IsEntry bound es most → IfSome first (λ e. es ≡ e ∷ after) → IfNone first (after ≡ es) → IsKeptSorted IsEntry bound after most
+    kept-first {bound} None es after most kept taken same = subst (λ xs. IsKeptSorted IsEntry bound xs most) (sym same) kept
+    kept-first {bound} (Some e) es after most kept taken same =
+        let whole : IsKeptSorted IsEntry bound (e ∷ after) most = subst (λ xs. IsKeptSorted IsEntry bound xs most) taken kept in
+        let sorted : IsTrue (is_sorted order (shown_entries after)) = later (below_all order e.0.items (shown_entries after)) (is_sorted order (shown_entries after)) whole.sorted in
+        let before : entries (shown_map (e ∷ after)) ≡ shown_entries (e ∷ after) = entries-shown (e ∷ after) whole.sorted in
+        let now : entries (shown_map after) ≡ shown_entries after = entries-shown after sorted in
+        let each : AllByRecursion IsEntry (shown_entries (e ∷ after)) = subst (AllByRecursion IsEntry) before whole.held.each in
+        let few : length (shown_entries (e ∷ after)) ≤ most = subst (λ (xs : List (List ℕ × X)). length xs ≤ most) before whole.held.few in
+        record {
+          sorted = sorted;
+          held = record {
+            each = subst (AllByRecursion IsEntry) (sym now) each.1;
+            few = subst (λ (xs : List (List ℕ × X)). length xs ≤ most) (sym now) (one_less (length (shown_entries after)) few);
+            bounded = whole.held.bounded;
+          };
+        }
+      where
+        one_less : (n : ℕ) → suc n ≤ most → n ≤ most
+        one_less n h = omega arith
+
+        later : (a b : Bool) → IsTrue (a && b) → IsTrue b
+        later true b h = h
+        later false b h = absurd cc
+
+  pub shown-first : (first : Option (Vec ℕ Global × X)) (es after : Kept X)
+      → IsTrue (is_sorted order (shown_entries es)) → IsTrue (is_sorted order (shown_entries after)) → IfSome first (λ e. es ≡ e ∷ after) → IfNone first (after ≡ es)
+      → entries (shown_map es) ≡ cons_option (option_map (λ e. (e.0.items, e.1)) first) (entries (shown_map after))
+  shown-first None es after sorted rest taken same = ap (λ (xs : Kept X). entries (shown_map xs)) (sym same)
+  shown-first (Some e) es after sorted rest taken same =
+      entries-shown es sorted ∙ ap shown_entries taken ∙ ap (λ (xs : List (List ℕ × X)). (e.0.items, e.1) ∷ xs) (sym (entries-shown after rest))
+
+  pub shown-nothing : {Y : Type 0} (first : Option Y) (es : Kept X) → first ≡ None → (0 < length es → IsSome first) → entries (shown_map es) ≡ []
+  shown-nothing first [] none some = entries-shown [] refl
+  shown-nothing first (e ∷ es) none some = let is : is_some first ≡ true = some (omega arith) in let not_is : is_some first ≡ false = ap is_some none in absurd cc
 
   -- what an iterator over the tree gives at a place
   pub nth-shown_entries : (s u : Kept X) (n : ℕ) (r : Option (Bor (Vec ℕ Global) × Bor X)) → SkipsThenYields (TakesFirst deref_pair) s n r u → option_map (λ x. (x.0.now.items, x.1.now)) r ≡ slice_get (shown_entries s) n

@@ -1,7 +1,7 @@
 ghost use Rattle.std.specs.Prelude.{◌≡◌, ◌≤◌, ◌<◌, map, length, [], Some, None, OnOk, OnErr, IfOk, IfSome, IfNone, IsOkUnless};
-ghost use Rattle.std.specs.Option.{option_copied, unwrap_or};
-ghost use Rattle.std.specs.List.{slice_get};
-ghost use Rattle.std.specs.FinMap.{entries, empty};
+ghost use Rattle.std.specs.Option.{option_copied, option_map, unwrap_or};
+ghost use Rattle.std.specs.List.{cons_option, slice_get};
+ghost use Rattle.std.specs.FinMap.{entries, empty, get};
 ghost use Rattle.byte_model.specs.Node.{longest_value};
 ghost use Rattle.trie_model.specs.State.{longest_key};
 ghost use Rattle.batch_model.specs.Changes.{most_changes};
@@ -95,6 +95,30 @@ impl Changes {
         ensures held { IsChangeMap self.now }
     {
         self.changes.len() as u64
+    }
+
+    /// What a key becomes, if it is changed: a value, or none where it is deleted. It takes no
+    /// memory.
+    pub fn get(&self, key: &[u8]) -> Option<Option<&[u8]>>
+        ensures { option_map option_copied result ≡ get self.now.changes key.now }
+    {
+        match self.changes.get(key) {
+            Some(value) => Some(value_of(value)),
+            None => None,
+        }
+    }
+
+    /// Takes the first change out, as key and what it becomes. None is taken where none is left. It
+    /// takes no memory.
+    pub fn take_first(&mut self) -> Option<(Text, Option<Text>)>
+        ensures changes { entries self.old.changes ≡ cons_option result (entries self.new.changes) }
+        ensures none { IfNone result (entries self.new.changes ≡ []) }
+        ensures most { self.new.most ≡ self.old.most }
+    {
+        let Some((key, value)) = self.changes.pop_first() else {
+            return None;
+        };
+        Some((Text::from_bytes(key), value))
     }
 
     /// The change at a place in the order of the keys, as key and what it becomes. Its time grows

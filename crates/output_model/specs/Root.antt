@@ -3,10 +3,11 @@ use Rattle.std.specs.Prelude.{ℕ, ◌&&◌, nat_le, not, List, [], ◌++◌, co
 use Rattle.std.specs.Fmt.{decimal}
 use Rattle.std.specs.FinMap.{empty, insert, contains_key, len}
 use Rattle.hex.specs.Hex.{encode_lower}
-use Rattle.script_model.specs.Lines.{Event, nothing, set}
+use Rattle.script_model.specs.Lines as line
+use Rattle.script_model.specs.Lines.{Event}
 use Rattle.trie_model.specs.State.{State}
 use Rattle.trie_model.specs.Root as trie
-use Rattle.output_model.specs.Ends.{Output, done, RunLimits, line_of, full_pairs}
+use Rattle.output_model.specs.Ends.{Output, done, RunLimits, line_of, full_pairs, syntax_at}
 use Rattle.output_model.specs.Scripts.{Step, goes_on, ends, Script, script_output}
 
 -- `root ROOT USAGE`, the root in 64 lower case digits and the usage in decimal
@@ -16,14 +17,19 @@ root_line state = line_of (codes "root " ++ encode_lower (trie.root state) ++ co
 abbrev pub root_done : State → Output
 root_done state = record { bytes = root_line state; ending = done }
 
--- A pair is laid over, where its key is not new or there is room for one more. It has no reply.
-abbrev pub root_step : RunLimits → State → Event → Step State
-root_step limits state nothing = goes_on [] state
-root_step limits state (set key value) =
+-- A pair is laid over, where its key is not new or there is room for one more. It has no reply. Lines of blocks are refused.
+abbrev pub root_step : RunLimits → (number : ℕ) → State → Event → Step State
+root_step limits number state line.nothing = goes_on [] state
+root_step limits number state (line.set key value) =
     if nat_le limits.pairs (len state) && not (contains_key state key) then ends full_pairs else goes_on [] (insert state key value)
+root_step limits number state (line.block id prev height) = ends (syntax_at number)
+root_step limits number state (line.delete key) = ends (syntax_at number)
+root_step limits number state line.block_end = ends (syntax_at number)
+root_step limits number state (line.head id) = ends (syntax_at number)
+root_step limits number state (line.flat id key) = ends (syntax_at number)
 
 abbrev pub root_script : RunLimits → Script State
-root_script limits = record { begin = empty; step = λ number. root_step limits; last = λ number. root_done }
+root_script limits = record { begin = empty; step = root_step limits; last = λ number. root_done }
 
 abbrev pub root_output : RunLimits → List ℕ → Output
 root_output limits input = script_output (root_script limits) input

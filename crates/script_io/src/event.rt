@@ -1,12 +1,11 @@
 ghost use Rattle.std.specs.Prelude.{◌≡◌, Some, None, Ok, Err, IsSome, IfOk, if◌then◌else◌};
 ghost use Rattle.std.specs.List.{slice_split, list_any};
-ghost use Rattle.script_model.specs.Lines.{event_of, event_of_words, set_pair, is_space, is_carriage_return};
-ghost use Rattle.script_model.specs.Spellings.{key_of, value_of};
+ghost use Rattle.script_model.specs.Lines.{event_of, event_of_words, is_space, is_carriage_return};
 ghost use Rattle.script_io.specs.Meanings.{IsRead, event};
 
-use crate::hex_bytes::read_hex;
+use crate::event_words::{read_four, read_one, read_three, read_two};
 use crate::words::cut_word;
-use base_core::{LONGEST_KEY, LONGEST_VALUE, Text};
+use base_core::{Digest, Text};
 use std::alloc::Global;
 use thiserror::Error;
 
@@ -15,8 +14,32 @@ use thiserror::Error;
 pub enum Event {
     /// Nothing: the line is empty or a comment.
     Nothing,
+    /// Begins a block over another one, with a height.
+    Open {
+        id: Digest,
+        prev: Digest,
+        height: u64,
+    },
     /// Sets the value of a key.
-    Set { key: Text, value: Text },
+    Set {
+        key: Text,
+        value: Text,
+    },
+    /// Deletes a key.
+    Del {
+        key: Text,
+    },
+    /// Ends the block.
+    End,
+    /// Moves the head to a block.
+    Head {
+        id: Digest,
+    },
+    /// Reads a key at a block.
+    Flat {
+        id: Digest,
+        key: Text,
+    },
 }
 
 #[derive(Debug, Drop, Error)]
@@ -57,34 +80,21 @@ fn read_comment(line: &[u8]) -> Result<Event, EventError>
     }
 }
 
-/// What the words of a line say.
+/// What the words of a line ask for.
 fn read_words(alloc: Global, line: &[u8]) -> Result<Event, EventError>
     ensures { IsRead event (event_of_words (slice_split is_space line.now)) result }
 {
     let Some((word, rest)) = cut_word(line) else {
-        return Err(EventError::Bad);
+        return read_one(line).ok_or(EventError::Bad);
     };
-    if word != b"set".as_slice() {
-        return Err(EventError::Bad);
-    }
-    let Some((key, value)) = cut_word(rest) else {
-        return Err(EventError::Bad);
+    let Some((a, rest)) = cut_word(rest) else {
+        return read_two(alloc, word, rest);
     };
-    read_set(alloc, key, value)
-}
-
-/// The pair that two texts write. A value that is none is bad also where the key found no memory.
-fn read_set(alloc: Global, key: &[u8], value: &[u8]) -> Result<Event, EventError>
-    ensures { IsRead event (set_pair (key_of key.now) (value_of value.now)) result }
-{
-    let key = match read_hex(alloc, key, LONGEST_KEY) {
-        Ok(key) => Some(key),
-        Err(EventError::NoMemory) => None,
-        Err(EventError::Bad) => return Err(EventError::Bad),
+    let Some((b, rest)) = cut_word(rest) else {
+        return read_three(alloc, word, a, rest);
     };
-    let value = read_hex(alloc, value, LONGEST_VALUE)?;
-    match key {
-        Some(key) => Ok(Event::Set { key, value }),
-        None => Err(EventError::NoMemory),
+    match cut_word(rest) {
+        None => read_four(word, a, b, rest).ok_or(EventError::Bad),
+        Some(_) => Err(EventError::Bad),
     }
 }

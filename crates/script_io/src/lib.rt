@@ -5,11 +5,14 @@
 mod buffer;
 mod command;
 mod event;
+mod event_words;
 mod hex_bytes;
+mod ids;
 mod line_error;
 mod lines;
 mod mem_sink;
 mod mem_source;
+mod number;
 mod output;
 mod sink;
 mod source;
@@ -29,5 +32,7 @@ pub use sink::Sink;
 pub use source::Source;
 pub use std_streams::{StdSink, StdSource};
 
+#[cfg(test)]
+mod event_tests;
 #[cfg(test)]
 mod tests;

@@ -1,7 +1,7 @@
 ghost use Rattle.std.specs.Prelude.{◌≤◌};
 
 use super::*;
-use base_core::{Fault, Text};
+use base_core::Text;
 use std::alloc::{AllocError, Global};
 use std::io;
 use std::io::{ErrorKind, Read, Write};
@@ -88,118 +88,23 @@ fn source_fails(rt: HostRuntime) -> Result<(), Fail> {
     Ok(())
 }
 
-fn expect_set(
+/// The words are the command of this word, or none where it is empty.
+fn expect_command(
     rt: &impl Abort,
     alloc: Global,
-    line: &[u8],
-    want_key: &[u8],
-    want_value: &[u8],
+    words: &[&[u8]],
+    want: &[u8],
 ) -> Result<(), Fail> {
-    match read_event(alloc, line)? {
-        Event::Nothing => assert!(rt; false, "{line:?}"),
-        Event::Set { key, value } => {
-            assert_eq!(rt; key.as_slice(), want_key, "{line:?}");
-            assert_eq!(rt; value.as_slice(), want_value, "{line:?}");
-        }
-    }
-    Ok(())
-}
-
-#[test]
-fn events(rt: HostRuntime) -> Result<(), Fail> {
-    let alloc = rt.alloc();
-    let pairs: [(&[u8], &[u8], &[u8]); 4] = [
-        (b"set 61 6869", b"a", b"hi"),
-        (b"set - -", b"", b""),
-        (b"set 00 -", b"\0", b""),
-        (b"set aB fFFf", b"\xab", b"\xff\xff"),
-    ];
-    for (line, key, value) in pairs {
-        expect_set(&rt, alloc, line, key, value)?;
-    }
-    for line in [b"".as_slice(), b"#", b"# set  61", b"#\xff"] {
-        assert!(rt;
-            matches!(read_event(alloc, line), Ok(Event::Nothing)),
-            "{line:?}"
-        );
-    }
-    let bad: [&[u8]; 15] = [
-        b" ",
-        b"set",
-        b"set 61",
-        b"set 61 62 63",
-        b"set  61 62",
-        b"set 61  62",
-        b" set 61 62",
-        b"set 61 62 ",
-        b"set\t61 62",
-        b"Set 61 62",
-        b"set 61 62\r",
-        b"# comment\r",
-        b"set 6 62",
-        b"set 61 6g",
-        b"set 61 ",
-    ];
-    for line in bad {
-        assert!(rt;
-            matches!(read_event(alloc, line), Err(EventError::Bad)),
-            "{line:?}"
-        );
-    }
-    Ok(())
-}
-
-/// The line that sets the value of a key.
-fn set_line(alloc: Global, key: &[u8], value: &[u8]) -> Result<Buffer, Fault> {
-    let mut line = Buffer::new(alloc);
-    put(&mut line, b"set ")?;
-    put_hex(&mut line, key)?;
-    put(&mut line, b" ")?;
-    put_hex(&mut line, value)?;
-    Ok(line)
-}
-
-fn expect_lengths(
-    rt: &impl Abort,
-    alloc: Global,
-    key: usize,
-    value: usize,
-    fits: bool,
-) -> Result<(), Fail> {
-    let key = copies(alloc, 7, key)?;
-    let value = copies(alloc, 7, value)?;
-    let line = set_line(alloc, key.as_slice(), value.as_slice())?;
-    if fits {
-        return expect_set(rt, alloc, line.bytes(), key.as_slice(), value.as_slice());
-    }
-    assert!(rt; matches!(read_event(alloc, line.bytes()), Err(EventError::Bad)));
-    Ok(())
-}
-
-#[test]
-fn longest_key_and_value(rt: HostRuntime) -> Result<(), Fail> {
-    let alloc = rt.alloc();
-    for (key, value, fits) in [
-        (2114, 0, true),
-        (2115, 0, false),
-        (1, 4194304, true),
-        (1, 4194305, false),
-    ] {
-        expect_lengths(&rt, alloc, key, value, fits)?;
-    }
-    Ok(())
-}
-
-fn expect_root(rt: &impl Abort, alloc: Global, words: &[&[u8]], want: bool) -> Result<(), Fail> {
     let mut texts = Vec::new(alloc);
     for word in words {
         texts.push(Text::copy(alloc, word)?)?;
     }
     match read_command(alloc, texts.as_slice()) {
-        Ok(Command::Root) => assert!(rt; want, "{words:?}"),
+        Ok(Command::Root) => assert_eq!(rt; want, b"root".as_slice(), "{words:?}"),
+        Ok(Command::Apply) => assert_eq!(rt; want, b"apply".as_slice(), "{words:?}"),
         Err(error) => {
             assert!(rt; matches!(error, CommandError::Bad), "{words:?}");
-            assert!(rt; !want, "{words:?}");
+            assert!(rt; want.is_empty(), "{words:?}");
         }
     }
     Ok(())
@@ -208,16 +113,19 @@ fn expect_root(rt: &impl Abort, alloc: Global, words: &[&[u8]], want: bool) -> R
 #[test]
 fn commands(rt: HostRuntime) -> Result<(), Fail> {
     let alloc = rt.alloc();
-    let table: [(&[&[u8]], bool); 6] = [
-        (&[b"root"], true),
-        (&[], false),
-        (&[b""], false),
-        (&[b"Root"], false),
-        (&[b"roots"], false),
-        (&[b"root", b""], false),
+    let table: [(&[&[u8]], &[u8]); 9] = [
+        (&[b"root"], b"root"),
+        (&[b"apply"], b"apply"),
+        (&[], b""),
+        (&[b""], b""),
+        (&[b"Root"], b""),
+        (&[b"roots"], b""),
+        (&[b"appl"], b""),
+        (&[b"root", b""], b""),
+        (&[b"apply", b"root"], b""),
     ];
     for (words, want) in table {
-        expect_root(&rt, alloc, words, want)?;
+        expect_command(&rt, alloc, words, want)?;
     }
     Ok(())
 }

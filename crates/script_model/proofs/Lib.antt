@@ -1,3 +1,3 @@
-pub mod SetLines
+pub mod Asked
 pub mod LineFaults
 pub mod LineParts

@@ -4,3 +4,5 @@ pub mod Words
 pub mod Spellings
 -- lines of an input, what they ask for, and why one is not read
 pub mod Lines
+-- what the things keep to that lines ask for
+pub mod Bounds

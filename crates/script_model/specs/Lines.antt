@@ -1,8 +1,9 @@
 -- A script, line by line. Line feeds end lines and are not counted into them, and what comes behind the last of them is a line too where it has a byte. Between two words stands one space, and spaces stand nowhere else. No line holds a carriage return. The language is this project's own.
 use Rattle.std.specs.Prelude.{ℕ, ◌+◌, ◌^◌, ◌==◌, ◌&&◌, nat_le, nat_lt, List, [], ◌∷◌, length, codes, Bool, Option, None, Some, if◌then◌else◌}
+use Rattle.std.specs.Option.{option_map}
 use Rattle.std.specs.List.{list_any, slice_split, position_or_len, before_first, after_first}
 use Rattle.std.specs.Str.{bytes_eq}
-use Rattle.script_model.specs.Spellings.{key_of, value_of}
+use Rattle.script_model.specs.Spellings.{key_of, value_of, id_of, number_of}
 
 abbrev pub line_feed : ℕ
 line_feed = 10
@@ -22,29 +23,59 @@ is_hash byte = byte == 35
 
 -- ---- what a line asks for
 
+-- A block begins over another, with a height, and ends; keys are set and deleted; the head moves to a block; a key is read at a block.
 pub data Event : Type 0 where
   nothing : Event
+  block : (id prev : List ℕ) (height : ℕ) → Event
   set : (key value : List ℕ) → Event
+  delete : (key : List ℕ) → Event
+  block_end : Event
+  head : (id : List ℕ) → Event
+  flat : (id key : List ℕ) → Event
 
--- the pair of a key and a value, where both are there
-abbrev pub set_pair : Option (List ℕ) → Option (List ℕ) → Option Event
-set_pair None value = None
-set_pair (Some key) None = None
-set_pair (Some key) (Some value) = Some (set key value)
+-- what is made of two or three things, where all are there
+abbrev pub both : {A B : Type 0} → (A → B → Event) → Option A → Option B → Option Event
+both make None b = None
+both make (Some a) None = None
+both make (Some a) (Some b) = Some (make a b)
 
--- `set K V`
+abbrev pub all_three : {A B C : Type 0} → (A → B → C → Event) → Option A → Option B → Option C → Option Event
+all_three make None b c = None
+all_three make (Some a) b c = both (make a) b c
+
+-- a word alone, and a word with one, two and three things behind it
+abbrev pub event_of_one : List ℕ → Option Event
+event_of_one word = if bytes_eq word (codes "end") then Some block_end else None
+
+abbrev pub event_of_two : List ℕ → List ℕ → Option Event
+event_of_two word a =
+    if bytes_eq word (codes "del") then option_map delete (key_of a)
+    else if bytes_eq word (codes "head") then option_map head (id_of a)
+    else None
+
+abbrev pub event_of_three : List ℕ → List ℕ → List ℕ → Option Event
+event_of_three word a b =
+    if bytes_eq word (codes "set") then both set (key_of a) (value_of b)
+    else if bytes_eq word (codes "flat") then both flat (id_of a) (key_of b)
+    else None
+
+abbrev pub event_of_four : List ℕ → List ℕ → List ℕ → List ℕ → Option Event
+event_of_four word a b c = if bytes_eq word (codes "block") then all_three block (id_of a) (id_of b) (number_of c) else None
+
+-- `end`, `del K`, `head ID`, `set K V`, `flat ID K`, `block ID ID NUM`
 abbrev pub event_of_words : List (List ℕ) → Option Event
 event_of_words [] = None
-event_of_words (word ∷ []) = None
-event_of_words (word ∷ key ∷ []) = None
-event_of_words (word ∷ key ∷ value ∷ []) = if bytes_eq word (codes "set") then set_pair (key_of key) (value_of value) else None
-event_of_words (word ∷ key ∷ value ∷ more ∷ words) = None
+event_of_words (word ∷ []) = event_of_one word
+event_of_words (word ∷ a ∷ []) = event_of_two word a
+event_of_words (word ∷ a ∷ b ∷ []) = event_of_three word a b
+event_of_words (word ∷ a ∷ b ∷ c ∷ []) = event_of_four word a b c
+event_of_words (word ∷ a ∷ b ∷ c ∷ d ∷ words) = None
 
 -- a comment asks for nothing
 abbrev pub comment : List ℕ → Option Event
 comment line = if list_any is_carriage_return line then None else Some nothing
 
--- what the line asks for, if it is one of a script: it is empty, or begins with `#`, or is `set K V`
+-- what the line asks for, if it is one of a script: it is empty, or begins with `#`, or is one of words
 unfoldable pub event_of : List ℕ → Option Event
 event_of [] = Some nothing
 event_of (byte ∷ line) = if is_hash byte then comment line else event_of_words (slice_split is_space (byte ∷ line))

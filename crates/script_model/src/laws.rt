@@ -1,11 +1,12 @@
 ghost use Rattle.std.specs.Prelude.{◌≡◌, ℕ, List, ◌++◌, replicate, false, Some};
 ghost use Rattle.std.specs.List.{list_any};
-ghost use Rattle.trie_model.specs.State.{IsPair};
-ghost use Rattle.script_model.specs.Lines.{event_of, set, line_feed, is_line_feed, first_line, first_feed, behind_line};
+ghost use Rattle.script_model.specs.Bounds.{IsAsked};
+ghost use Rattle.script_model.specs.Lines.{Event, event_of, line_feed, is_line_feed, first_line, first_feed, behind_line};
 
-/// What a line sets is a pair of a state: bytes, within the limits of keys and values.
-pub fn set_line_is_a_pair()
-    ensures { (line key value : List ℕ) → event_of line ≡ Some (set key value) → IsPair (key, value) }
+/// What a line asks for is within the limits: keys and values are bytes and short enough, ids have as
+/// many bytes as a digest, and a height has eight bytes at most.
+pub fn lines_keep_to_limits()
+    ensures { (line : List ℕ) (asked : Event) → event_of line ≡ Some asked → IsAsked asked }
 {}
 
 /// Bytes are their first line, the line feed that ends it where one does, and what comes behind. The

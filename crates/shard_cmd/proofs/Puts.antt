@@ -11,7 +11,8 @@ use Rattle.base_core.specs.declared.put_error.PutError.TheVariants.{Full, NoMemo
 use Rattle.base_core.specs.PairMaps.{PairMap, laid, refusal}
 use Rattle.script_io.specs.declared.event.Event.{Event}
 use Rattle.script_io.specs.Meanings.{event}
-use Rattle.shard_cmd.specs.Events.{is_full, has_room, SetsPair, Lays}
+use Rattle.shard_cmd.specs.declared.root.End.TheVariants as end
+use Rattle.shard_cmd.specs.Events.{is_full, ends_at, SetsPair, Lays}
 
 -- as `Pairs::put` says it
 pub record IsPut (old new : PairMap) (key value : List ℕ) (r : Result Unit PutError) : Type 0 where
@@ -43,28 +44,32 @@ put_answer old new key value r pair p =
     answer_of old new key value (is_full old key) r refl refused taken p.ok p.err
 
 -- what an event that sets a pair comes to, by the answer
-pub record IsLaid (old new : PairMap) (asked : lines.Event) (r : Result Unit PutError) : Type 0 where
-  pub ok : OnOk r (Lays old new asked true)
-  pub full : r ≡ Err Full → Lays old new asked false
-  pub no_memory : r ≡ Err NoMemory → has_room old asked ≡ true
+pub record IsLaid (number : ℕ) (old new : PairMap) (asked : lines.Event) (r : Result Unit PutError) : Type 0 where
+  pub ok : OnOk r (Lays number old new asked None)
+  pub full : r ≡ Err Full → Lays number old new asked (Some end.Full)
+  pub no_memory : r ≡ Err NoMemory → ends_at number old asked ≡ None
 
-pair_laid : (old new : PairMap) (key value : List ℕ) (r : Result Unit PutError) → Answer old new key value r → IsLaid old new (lines.set key value) r
-pair_laid old new key value r (put is room h) = rw is record {
-  ok = (ap not room, h);
+-- whether the script ends at the pair
+end_if : (b c : Bool) → b ≡ c → (if b then Some end.Full else None) ≡ (if c then Some end.Full else None)
+end_if b c e = ap (λ (t : Bool). if t then Some end.Full else None) e
+
+pair_laid : (number : ℕ) (old new : PairMap) (key value : List ℕ) (r : Result Unit PutError) → Answer old new key value r → IsLaid number old new (lines.set key value) r
+pair_laid number old new key value r (put is room h) = rw is record {
+  ok = (end_if _ _ room, h);
   full = λ e. absurd (cc e);
   no_memory = λ e. absurd (cc e);
 }
-pair_laid old new key value r (full is none h) = rw is record {
+pair_laid number old new key value r (full is none h) = rw is record {
   ok = tt;
-  full = λ e. (ap not none, h);
+  full = λ e. (end_if _ _ none, h);
   no_memory = λ e. absurd (cc e);
 }
-pair_laid old new key value r (no_memory is room h) = rw is record {
+pair_laid number old new key value r (no_memory is room h) = rw is record {
   ok = tt;
   full = λ e. absurd (cc e);
-  no_memory = λ e. ap not room;
+  no_memory = λ e. end_if _ _ room;
 }
 
-pub event_laid : (old new : PairMap) (asked : Event) (key value : List ℕ) (r : Result Unit PutError) → event asked ≡ lines.set key value → SetsPair (event asked) → IsPut old new key value r → IsLaid old new (event asked) r
-event_laid old new asked key value r e within p =
-    subst (λ a. IsLaid old new a r) (sym e) (pair_laid old new key value r (put_answer old new key value r (subst SetsPair e within) p))
+pub event_laid : (number : ℕ) (old new : PairMap) (asked : Event) (key value : List ℕ) (r : Result Unit PutError) → event asked ≡ lines.set key value → SetsPair (event asked) → IsPut old new key value r → IsLaid number old new (event asked) r
+event_laid number old new asked key value r e within p =
+    subst (λ a. IsLaid number old new a r) (sym e) (pair_laid number old new key value r (put_answer old new key value r (subst SetsPair e within) p))

@@ -1,11 +1,13 @@
 -- The output of a script, event by event.
-use Rattle.std.proofs.Common.{◌≡◌, ℕ, ◌+◌, Bool, true, false, not, List, [], ◌++◌, length, Option, Some, None, Ok, Err, IfSome, IfOk, refl, sym, ap, subst, ◌∙◌}
+use Rattle.std.proofs.Common.{◌≡◌, ℕ, ◌+◌, Bool, true, false, List, [], ◌++◌, length, Option, Some, None, Ok, Err, IfSome, IfOk, refl, sym, ap, subst, ◌∙◌}
+use Rattle.std.specs.Prelude.{if◌then◌else◌}
 use Rattle.std.specs.FinMap.{empty}
 use Rattle.script_model.specs.Lines as lines
 use Rattle.script_model.specs.Lines.{pieces, first_line, first_feed, behind_line, event_of}
-use Rattle.script_model.proofs.SetLines.{IsPair-event_of}
+use Rattle.script_model.specs.Bounds.{IsAsked}
+use Rattle.script_model.proofs.Asked.{asked-within}
 use Rattle.trie_model.specs.State.{State}
-use Rattle.output_model.specs.Ends.{Output, RunLimits, syntax_at, full_pairs}
+use Rattle.output_model.specs.Ends.{Output, RunLimits, syntax_at}
 use Rattle.output_model.specs.Scripts.{after_line, lines_output, script_output}
 use Rattle.output_model.specs.Root.{root_done, root_script, root_output}
 use Rattle.output_model.proofs.FirstLine as lines_of
@@ -16,15 +18,18 @@ use Rattle.script_io.specs.LinesStates.{LinesState}
 use Rattle.script_io.specs.Meanings.{event}
 use Rattle.shard_cmd.specs.declared.events.Stop.{Stop}
 use Rattle.shard_cmd.specs.declared.events.Stop.TheVariants as stop
+use Rattle.shard_cmd.specs.declared.root.End.{End}
+use Rattle.shard_cmd.specs.declared.root.End.TheVariants as end
 use Rattle.shard_cmd.specs.Events.{end_output, stopped_at, NextIs, Asks, IsNext, is_full, SetsPair, Lays}
 
-not_true : (b : Bool) → not b ≡ true → b ≡ false
-not_true true e = absurd (cc e)
-not_true false e = refl
+-- the pair had room, or it had none
+had_room : (b : Bool) → (if b then Some end.Full else None) ≡ None → b ≡ false
+had_room true e = absurd (cc e)
+had_room false e = refl
 
-not_false : (b : Bool) → not b ≡ false → b ≡ true
-not_false true e = refl
-not_false false e = absurd (cc e)
+had_none : (b : Bool) (found : End) → (if b then Some end.Full else None) ≡ Some found → (b ≡ true) × (found ≡ end.Full)
+had_none true found e = (refl, cc)
+had_none false found e = absurd (cc e)
 
 -- ---- the events of a script
 
@@ -65,16 +70,21 @@ asks_of : (after new_after : Option (List ℕ)) (old new : LinesState) (found : 
 asks_of None new_after old new found h = tt
 asks_of (Some left) new_after old new found h = h
 
-laid_step : (limits : RunLimits) (held next : PairMap) (number : ℕ) (asked : lines.Event) → limits.pairs ≡ held.most → Lays held next asked true
+laid_step : (limits : RunLimits) (held next : PairMap) (number : ℕ) (asked : lines.Event) → limits.pairs ≡ held.most → Lays number held next asked None
     → (others : State → Output) → after_line (root_script limits) number (Some asked) held.state others ≡ others next.state
 laid_step limits held next number lines.nothing same l others = ap (λ (h : PairMap). others h.state) (sym l.1)
-laid_step limits held next number (lines.set key value) same l others = rw (same, not_true (is_full held key) l.0) (ap (λ (h : PairMap). others h.state) (sym l.1))
+laid_step limits held next number (lines.set key value) same l others = rw (same, had_room (is_full held key) l.0) (ap (λ (h : PairMap). others h.state) (sym l.1))
+laid_step limits held next number (lines.block id prev height) same l others = absurd (cc l.0)
+laid_step limits held next number (lines.delete key) same l others = absurd (cc l.0)
+laid_step limits held next number lines.block_end same l others = absurd (cc l.0)
+laid_step limits held next number (lines.head id) same l others = absurd (cc l.0)
+laid_step limits held next number (lines.flat id key) same l others = absurd (cc l.0)
 
 -- the event was done
-pub IsUpTo-laid : (left after new_after : Option (List ℕ)) (most : ℕ) (old new : LinesState) (held next : PairMap) (found : Event) → held.most ≡ most → IsNext old new
-    → IfSome after (λ left. NextIs (old.pending ++ left) old new new_after (Ok (Some found))) → Lays held next (event found) true → IsUpTo left most old after held.state → IsUpTo left most new new_after next.state
-IsUpTo-laid left after new_after most old new held next found m step h l u = record {
-  told = λ limits same. goes_on left after new_after limits old new held.state next.state (event found) step.lines (laid_step limits held next (old.lines + 1) (event found) (same ∙ sym m) l) (u.told limits same) (asks_of after new_after old new found h);
+pub IsUpTo-laid : (left after new_after : Option (List ℕ)) (most number : ℕ) (old new : LinesState) (held next : PairMap) (found : Event) → held.most ≡ most → number ≡ old.lines + 1 → IsNext old new
+    → IfSome after (λ left. NextIs (old.pending ++ left) old new new_after (Ok (Some found))) → Lays number held next (event found) None → IsUpTo left most old after held.state → IsUpTo left most new new_after next.state
+IsUpTo-laid left after new_after most number old new held next found m n step h l u = record {
+  told = λ limits same. goes_on left after new_after limits old new held.state next.state (event found) step.lines (laid_step limits held next (old.lines + 1) (event found) (same ∙ sym m) (rw n at l)) (u.told limits same) (asks_of after new_after old new found h);
 }
 
 -- ---- the end of a script
@@ -104,10 +114,16 @@ ends_syntax (Some input) after new_after most number old new state limits same n
     ∙ ap (λ o. after_line (root_script limits) (old.lines + 1) o state (λ s. lines_output (root_script limits) (old.before + length (first_line (old.pending ++ told.0)) + first_feed (old.pending ++ told.0)) (old.lines + 1 + 1) s (pieces (behind_line (old.pending ++ told.0))))) bad.1
     ∙ ap syntax_at (sym n)
 
-no_room : (limits : RunLimits) (held next : PairMap) (number : ℕ) (asked : lines.Event) → limits.pairs ≡ held.most → Lays held next asked false
-    → (others : State → Output) → after_line (root_script limits) number (Some asked) held.state others ≡ full_pairs
-no_room limits held next number lines.nothing same l others = absurd (cc l.0)
-no_room limits held next number (lines.set key value) same l others = rw (same, not_false (is_full held key) l.0) refl
+-- at a line that is read
+line_ends : (found : End) (limits : RunLimits) (held next : PairMap) (number : ℕ) (asked : lines.Event) → limits.pairs ≡ held.most → Lays number held next asked (Some found)
+    → (others : State → Output) → after_line (root_script limits) number (Some asked) held.state others ≡ end_output found next.state
+line_ends found limits held next number lines.nothing same l others = absurd (cc l.0)
+line_ends found limits held next number (lines.set key value) same l others = let full = had_none (is_full held key) found l.0 in rw (same, full.0, full.1) refl
+line_ends found limits held next number (lines.block id prev height) same l others = let is : end.Syntax number ≡ found = cc l.0 in rw (← is) refl
+line_ends found limits held next number (lines.delete key) same l others = let is : end.Syntax number ≡ found = cc l.0 in rw (← is) refl
+line_ends found limits held next number lines.block_end same l others = let is : end.Syntax number ≡ found = cc l.0 in rw (← is) refl
+line_ends found limits held next number (lines.head id) same l others = let is : end.Syntax number ≡ found = cc l.0 in rw (← is) refl
+line_ends found limits held next number (lines.flat id key) same l others = let is : end.Syntax number ≡ found = cc l.0 in rw (← is) refl
 
 -- the script stops at a line
 pub ends_stopped : (left after new_after : Option (List ℕ)) (most number : ℕ) (old new : LinesState) (state : State) (limits : RunLimits) (why : Stop) → limits.pairs ≡ most → number ≡ old.lines + 1 → IsUpTo left most old after state
@@ -117,17 +133,27 @@ ends_stopped (Some input) after new_after most number old new state limits stop.
 ends_stopped (Some input) after new_after most number old new state limits stop.ReadFault same n u h = tt
 ends_stopped (Some input) after new_after most number old new state limits stop.NoMemory same n u h = tt
 
--- there was no room for the event
-pub ends_full : (left after new_after : Option (List ℕ)) (most : ℕ) (old new : LinesState) (held next : PairMap) (found : Event) (limits : RunLimits) → limits.pairs ≡ most → held.most ≡ most → IsNext old new
-    → IfSome after (λ left. NextIs (old.pending ++ left) old new new_after (Ok (Some found))) → Lays held next (event found) false → IsUpTo left most old after held.state → IfSome left (λ input. root_output limits input ≡ full_pairs)
-ends_full None after new_after most old new held next found limits same m step h l u = tt
-ends_full (Some input) after new_after most old new held next found limits same m step h l u =
+-- the script ends at what a line asks for
+pub ends_asked : (left after new_after : Option (List ℕ)) (most number : ℕ) (old new : LinesState) (held next : PairMap) (asked : Event) (found : End) (limits : RunLimits) → limits.pairs ≡ most → held.most ≡ most → number ≡ old.lines + 1 → IsNext old new
+    → IfSome after (λ left. NextIs (old.pending ++ left) old new new_after (Ok (Some asked))) → Lays number held next (event asked) (Some found) → IsUpTo left most old after held.state
+    → IfSome left (λ input. root_output limits input ≡ end_output found next.state)
+ends_asked None after new_after most number old new held next asked found limits same m n step h l u = tt
+ends_asked (Some input) after new_after most number old new held next asked found limits same m n step h l u =
     let told = u.told limits same in
-    let asks : Asks (old.pending ++ told.0) old new new_after (event found) = subst (λ (o : Option (List ℕ)). IfSome o (λ rest. Asks (old.pending ++ rest) old new new_after (event found))) told.1 (asks_of after new_after old new found h) in
-    told.2 ∙ asked_output limits old new held.state told.0 new_after (event found) asks step.lines
-    ∙ no_room limits held next (old.lines + 1) (event found) (same ∙ sym m) l (λ s. lines_output (root_script limits) new.before (new.lines + 1) s (pieces (behind_line (old.pending ++ told.0))))
+    let asks : Asks (old.pending ++ told.0) old new new_after (event asked) = subst (λ (o : Option (List ℕ)). IfSome o (λ rest. Asks (old.pending ++ rest) old new new_after (event asked))) told.1 (asks_of after new_after old new asked h) in
+    told.2 ∙ asked_output limits old new held.state told.0 new_after (event asked) asks step.lines
+    ∙ line_ends found limits held next (old.lines + 1) (event asked) (same ∙ sym m) (rw n at l) (λ s. lines_output (root_script limits) new.before (new.lines + 1) s (pieces (behind_line (old.pending ++ told.0))))
 
 -- what a line sets is a pair
+SetsPair-asked : (asked : lines.Event) → IsAsked asked → SetsPair asked
+unfolding IsAsked
+SetsPair-asked lines.nothing h = tt
+SetsPair-asked (lines.block id prev height) h = tt
+SetsPair-asked (lines.set key value) h = h
+SetsPair-asked (lines.delete key) h = tt
+SetsPair-asked lines.block_end h = tt
+SetsPair-asked (lines.head id) h = tt
+SetsPair-asked (lines.flat id key) h = tt
+
 pub SetsPair-event_of : (line : List ℕ) (asked : lines.Event) → event_of line ≡ Some asked → SetsPair asked
-SetsPair-event_of line lines.nothing e = tt
-SetsPair-event_of line (lines.set key value) e = IsPair-event_of line key value e
+SetsPair-event_of line asked e = SetsPair-asked asked (asked-within line asked e)

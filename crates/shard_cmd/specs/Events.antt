@@ -1,5 +1,5 @@
 -- What comes of asking for the next event of a script.
-use Rattle.std.specs.Prelude.{◌≡◌, ◌≢◌, ℕ, ◌+◌, ◌<◌, ◌≤◌, List, [], ◌++◌, length, nat_le, not, ◌&&◌, Bool, true, false, Option, None, Some, IsSome, Result, Ok, Err, ◌⊎◌}
+use Rattle.std.specs.Prelude.{◌≡◌, ◌≢◌, ℕ, ◌+◌, ◌<◌, ◌≤◌, List, [], ◌++◌, length, nat_le, not, ◌&&◌, Bool, if◌then◌else◌, Option, None, Some, IsSome, Result, Ok, Err, ◌⊎◌}
 use Rattle.std.specs.FinMap.{len, contains_key}
 use Rattle.base_core.specs.Faults as ended
 use Rattle.base_core.specs.Faults.{Ended}
@@ -85,19 +85,34 @@ is_full held key = nat_le held.most (len held.state) && not (contains_key held.s
 -- the pair that an event sets is within the limits of keys and values
 abbrev pub SetsPair : lines.Event → Type 0
 SetsPair lines.nothing = Unit {0}
+SetsPair (lines.block id prev height) = Unit {0}
 SetsPair (lines.set key value) = IsPair (key, value)
+SetsPair (lines.delete key) = Unit {0}
+SetsPair lines.block_end = Unit {0}
+SetsPair (lines.head id) = Unit {0}
+SetsPair (lines.flat id key) = Unit {0}
 
--- whether there is room for what an event asks for
-abbrev pub has_room : PairMap → lines.Event → Bool
-has_room held lines.nothing = true
-has_room held (lines.set key value) = not (is_full held key)
+-- how a script ends at what the line with this number asks for, if it does: a pair has no room, or the line is one of blocks
+abbrev pub ends_at : (number : ℕ) → PairMap → lines.Event → Option End
+ends_at number held lines.nothing = None
+ends_at number held (lines.block id prev height) = Some (Syntax number)
+ends_at number held (lines.set key value) = if is_full held key then Some Full else None
+ends_at number held (lines.delete key) = Some (Syntax number)
+ends_at number held lines.block_end = Some (Syntax number)
+ends_at number held (lines.head id) = Some (Syntax number)
+ends_at number held (lines.flat id key) = Some (Syntax number)
 
 -- what is held once an event was done
 abbrev pub after_event : PairMap → lines.Event → PairMap
 after_event held lines.nothing = held
+after_event held (lines.block id prev height) = held
 after_event held (lines.set key value) = laid held key value
+after_event held (lines.delete key) = held
+after_event held lines.block_end = held
+after_event held (lines.head id) = held
+after_event held (lines.flat id key) = held
 
--- What an event asks for was done, where there was room for it; else nothing was.
-abbrev pub Lays : (old new : PairMap) → lines.Event → Bool → Type 0
-Lays old new asked true = (has_room old asked ≡ true) × (new ≡ after_event old asked)
-Lays old new asked false = (has_room old asked ≡ false) × (new ≡ old)
+-- What an event asks for was done, and the script goes on; or it ends there, and nothing was done.
+abbrev pub Lays : (number : ℕ) (old new : PairMap) → lines.Event → Option End → Type 0
+Lays number old new asked None = (ends_at number old asked ≡ None) × (new ≡ after_event old asked)
+Lays number old new asked (Some end) = (ends_at number old asked ≡ Some end) × (new ≡ old)

@@ -1,11 +1,11 @@
-ghost use Rattle.std.specs.Prelude.{◌≡◌, [], false, Some, Ok, IfOk, IfErr, IfSome, OnErr};
+ghost use Rattle.std.specs.Prelude.{◌≡◌, [], Some, Ok, IfOk, IfErr, IfSome, OnErr};
 ghost use Rattle.std.specs.FinMap.{empty};
 ghost use Rattle.base_core.specs.Bounds.{AreLimits};
 ghost use Rattle.base_core.specs.Faults.{faults_after};
 ghost use Rattle.output_model.specs.Ends.{RunLimits};
 ghost use Rattle.output_model.specs.Root.{root_output};
 ghost use Rattle.shard_cmd.specs.Ends.{run_limits, IsAnswer, IsFailure, reading_ended};
-ghost use Rattle.shard_cmd.specs.Events.{end_output, stopped_at, SetsPair, has_room, Lays};
+ghost use Rattle.shard_cmd.specs.Events.{end_output, stopped_at, SetsPair, ends_at, Lays};
 ghost use Rattle.script_io.specs.Meanings.{event};
 ghost use Rattle.shard_cmd.specs.Replies.{IsReply};
 
@@ -22,7 +22,7 @@ use trie_shape::build;
 pub enum End {
     /// With the end of the input.
     Whole,
-    /// At the line with this number, which is none of a script.
+    /// At the line with this number, which is none of a script, or one of blocks.
     Syntax(u64),
     /// At a pair for which there is no room.
     Full,
@@ -81,9 +81,9 @@ pub fn read_pairs<S: Source>(
     loop {
         match next_event(alloc, &mut lines, source) {
             Ok(None) => return Ok(End::Whole),
-            Ok(Some(event)) => match lay(pairs, event) {
-                Ok(true) => {}
-                Ok(false) => return Ok(End::Full),
+            Ok(Some(event)) => match lay(pairs, event, lines.number()) {
+                Ok(None) => {}
+                Ok(Some(end)) => return Ok(end),
                 Err(_) => return Err(Status::NoMemory),
             },
             Err(stop) => return stopped(stop, lines.number()),
@@ -102,21 +102,23 @@ fn stopped(stop: Stop, number: u64) -> Result<End, Status>
     }
 }
 
-/// Does what an event asks for, and answers whether there was room for it.
-fn lay(pairs: &mut Pairs, asked: Event) -> Result<bool, AllocError>
+/// Does what the line with this number asks for, and answers how the script ends there, if it does: at
+/// a pair without room, or at a line of blocks.
+fn lay(pairs: &mut Pairs, asked: Event, number: u64) -> Result<Option<End>, AllocError>
     requires { SetsPair (event asked) }
-    ensures lays { IfOk result (Lays pairs.old pairs.new (event asked)) }
-    ensures refused { has_room pairs.old (event asked) ≡ false → result ≡ Ok false }
+    ensures lays { IfOk result (Lays number pairs.old pairs.new (event asked)) }
+    ensures refused { IfSome (ends_at number pairs.old (event asked)) (λ end. result ≡ Ok (Some end)) }
     ensures err { OnErr result (pairs.new ≡ pairs.old) }
     ensures most { pairs.new.most ≡ pairs.old.most }
 {
     match asked {
-        Event::Nothing => Ok(true),
+        Event::Nothing => Ok(None),
         Event::Set { key, value } => match pairs.put(key, value) {
-            Ok(()) => Ok(true),
-            Err(PutError::Full) => Ok(false),
+            Ok(()) => Ok(None),
+            Err(PutError::Full) => Ok(Some(End::Full)),
             Err(PutError::NoMemory) => Err(AllocError),
             Err(PutError::KeyLong { .. } | PutError::ValueLong { .. }) => unreachable!(),
         },
+        _ => Ok(Some(End::Syntax(number))),
     }
 }

@@ -100,6 +100,23 @@ fn scripts(rt: HostRuntime) -> Result<(), Fail> {
     expect(&rt, alloc, input, b"syntax 4\n", bad)
 }
 
+/// Lines of blocks are none of `root`'s. The line before is done, and the one behind is not come to.
+#[test]
+fn lines_of_blocks(rt: HostRuntime) -> Result<(), Fail> {
+    let alloc = rt.alloc();
+    let table: [&[u8]; 5] = [
+        b"set 61 61\nend\nset\n",
+        b"set 61 61\ndel 61\nset\n",
+        b"\nhead 0123456789abcdef0123456789abcdef0123456789abcdef0123456789abcdef",
+        b"\nflat 0123456789abcdef0123456789abcdef0123456789abcdef0123456789abcdef -",
+        b"#\nblock 0123456789abcdef0123456789abcdef0123456789abcdef0123456789abcdef 0000000000000000000000000000000000000000000000000000000000000000 7\n",
+    ];
+    for input in table {
+        expect(&rt, alloc, input, b"syntax 2\n", Status::Syntax)?;
+    }
+    Ok(())
+}
+
 /// A script of one line, whose key has so many bytes, each of them 61.
 fn long_key(alloc: Global, length: usize, value: &[u8]) -> Result<Vec<u8>, AllocError> {
     let mut script = Vec::new(alloc);

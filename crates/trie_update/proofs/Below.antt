@@ -1,5 +1,5 @@
 -- The changes below a place, as the model asks for them.
-use Rattle.std.proofs.Common.{ℕ, zero, suc, ◌≤◌, ◌<◌, List, [], ◌∷◌, length, drop, Option, None, Some, IfSome, arith}
+use Rattle.std.proofs.Common.{ℕ, zero, suc, ◌≤◌, ◌<◌, List, [], ◌∷◌, length, take, drop, Option, None, Some, IfSome, arith}
 use Rattle.std.specs.Borrow.{Bor}
 use Rattle.std.specs.List.{AllByRecursion}
 use Rattle.std.proofs.lemmas.List.{length-drop}
@@ -8,10 +8,15 @@ use Rattle.byte_model.specs.Node.{longest_value}
 use Rattle.update_model.specs.Sound.{IsBelow, AreBelow}
 use Rattle.trie_update.specs.ChangesAt.{AreChangesAt, IsChangeAt, Lent, changes_at, value_lent}
 
-all-drop : {X : Type 0} (P : X → Type 0) (n : ℕ) (xs : List X) → AllByRecursion P xs → AllByRecursion P (drop n xs)
+pub all-drop : {X : Type 0} (P : X → Type 0) (n : ℕ) (xs : List X) → AllByRecursion P xs → AllByRecursion P (drop n xs)
 all-drop P zero xs h = h
 all-drop P (suc n) [] h = tt
 all-drop P (suc n) (x ∷ xs) h = all-drop P n xs h.1
+
+pub all-take : {X : Type 0} (P : X → Type 0) (n : ℕ) (xs : List X) → AllByRecursion P xs → AllByRecursion P (take n xs)
+all-take P zero xs h = tt
+all-take P (suc n) [] h = tt
+all-take P (suc n) (x ∷ xs) h = (h.0, all-take P n xs h.1)
 
 small_value : (value : Option (Bor (List ℕ))) → IfSome value (λ v. length v.now ≤ longest_value) → IfSome (value_lent value) (λ v. length v ≤ longest_value)
 small_value None h = tt

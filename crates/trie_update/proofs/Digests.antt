@@ -1,10 +1,7 @@
 -- What is seen of a digest whose visit was done, and what a batch makes of it: of a leaf or an extension by the top that was read, of a branch by its children.
-use Rattle.std.proofs.Common.{◌≡◌, ◌≢◌, ℕ, zero, suc, ◌+◌, ◌-◌, ◌≤◌, ◌<◌, Bool, true, false, List, [], ◌∷◌, length, drop, Option, None, Some, Result, Ok, Err, option_map, refl, sym, ◌∙◌, ap, subst, arith}
+use Rattle.std.proofs.Common.{◌≡◌, ◌≢◌, ℕ, ◌+◌, ◌-◌, ◌≤◌, ◌<◌, Bool, true, false, List, [], ◌∷◌, length, Option, None, Some, Result, Ok, Err, option_map, refl, sym, ◌∙◌, ap, subst, arith}
 use Rattle.std.specs.Prelude.{IfOk, OnOk, IfSome}
 use Rattle.std.specs.Borrow.{Bor}
-use Rattle.std.specs.List.{AllByRecursion}
-use Rattle.std.proofs.lemmas.List.{length-drop}
-use Rattle.byte_model.specs.Nibbles as key
 use Rattle.byte_model.specs.Nibbles.{AreNibbles}
 use Rattle.byte_model.specs.PackedPath.{longest_path}
 use Rattle.byte_model.specs.Node.{ValueRef, longest_value}
@@ -23,7 +20,7 @@ use Rattle.node_codec.specs.Meanings.{value_of}
 use Rattle.text_store.specs.Store.{Store}
 use Rattle.text_store.specs.Leaves.{Leaves}
 use Rattle.update_model.specs.Joins.{known, is_there}
-use Rattle.update_model.specs.Sound.{AreBelow, IsBelow, StandsAt}
+use Rattle.update_model.specs.Sound.{AreBelow, StandsAt}
 use Rattle.update_model.specs.Tops.{Top, leaf, branch, extension, lowered, top_usage}
 use Rattle.update_model.specs.Updates.{Outcome, branch_outcome, digest_or_none, laid, losing, no_branch, updated}
 use Rattle.update_model.proofs.Behind.{below-depth}
@@ -41,7 +38,7 @@ use Rattle.trie_update.specs.declared.updating.Placed.{Placed}
 use Rattle.trie_update.specs.declared.visiting.Visited.{Visited}
 use Rattle.trie_update.specs.Accounts.{CanCount, IsNamed, Loses}
 use Rattle.trie_update.specs.Carries.{Carries}
-use Rattle.trie_update.specs.ChangesAt.{AreChangesAt, IsChangeAt, Lent, changes_at, value_lent}
+use Rattle.trie_update.specs.ChangesAt.{AreChangesAt, Lent, changes_at}
 use Rattle.trie_update.specs.Places.{FitsTop, Keeps, MostTop, TopKeeps, old_past, seen_past, top_stated, top_visits}
 use Rattle.trie_update.specs.Placed.{IsPlaced, branch_inside, run_at}
 use Rattle.trie_update.proofs.Adding.{adds-lost, adds-same, adds-then}
@@ -49,35 +46,16 @@ use Rattle.trie_update.proofs.AloneVisits.{name-seen_at}
 use Rattle.trie_update.proofs.Carrying.{carries-opened, carries-short, carries-then, opens-changed}
 use Rattle.trie_update.proofs.OneNibble.{none-before}
 use Rattle.trie_update.proofs.SeenVisits.{SeesCopy, SeesLeaf, SeesExtension, SeesBranch}
+use Rattle.trie_update.proofs.Below.{below-changes_at}
 
 -- ---- the changes of a call
-
-dropped : (n : ℕ) (p : List ℕ) → AreNibbles p → AreNibbles (drop n p)
-dropped zero p h = h
-dropped (suc n) [] h = tt
-dropped (suc n) (x ∷ p) h = dropped n p h.1
-
-each-below : (depth : ℕ) (changes : List Lent) → AllByRecursion (IsChangeAt depth) changes → AllByRecursion (IsBelow depth) (changes_at depth changes)
-each-below depth [] h = tt
-each-below depth (change ∷ changes) h =
-    let long = length-drop depth (key.nibbles change.0.now) in
-    let deep = h.0.deep in
-    let short = h.0.short in
-    (record { nibbles = dropped depth (key.nibbles change.0.now) h.0.nibbles; short = omega arith; value = lent_value change.1 h.0.value }, each-below depth changes h.1)
-  where
-    lent_value : (value : Option (Bor (List ℕ))) → IfSome value (λ v. length v.now ≤ longest_value) → IfSome (value_lent value) (λ v. length v ≤ longest_value)
-    lent_value None h = tt
-    lent_value (Some value) h = h
-
-pub lent-below : (depth : ℕ) (changes : List Lent) → AreChangesAt depth changes → AreBelow depth (changes_at depth changes)
-lent-below depth changes are = record { rise = are.rises; each = each-below depth changes are.each }
 
 pub lent-some : (depth : ℕ) (changes : List Lent) → 1 ≤ length changes → changes_at depth changes ≢ []
 lent-some depth [] some = absurd (omega arith)
 lent-some depth (change ∷ changes) some = λ e. cc
 
 pub lent-deep : (depth : ℕ) (changes : List Lent) → AreChangesAt depth changes → 1 ≤ length changes → depth ≤ longest_path
-lent-deep depth changes are some = below-depth depth (changes_at depth changes) (lent-some depth changes some) (lent-below depth changes are)
+lent-deep depth changes are some = below-depth depth (changes_at depth changes) (lent-some depth changes some) (below-changes_at depth changes are)
 
 -- ---- the top that was read
 

@@ -1,20 +1,16 @@
 -- The root of a trie, and what is left of a call once it has become what it becomes: its record, gains and losses, and the answer.
-use Rattle.std.proofs.Common.{◌≡◌, ◌≢◌, ℕ, zero, suc, ◌+◌, ◌*◌, ◌^◌, ◌<◌, ◌≤◌, ◌==◌, Bool, true, false, if◌then◌else◌, List, [], ◌∷◌, ◌++◌, length, map, drop, Option, None, Some, Result, Ok, Err, refl, sym, ap, subst, ◌∙◌, arith}
-use Rattle.std.specs.Prelude.{nat_eq, IfOk, OnOk, IfSome}
-use Rattle.std.specs.Borrow.{Bor}
+use Rattle.std.proofs.Common.{◌≡◌, ◌≢◌, ℕ, zero, suc, ◌+◌, ◌*◌, ◌^◌, ◌<◌, ◌≤◌, ◌==◌, Bool, true, false, if◌then◌else◌, List, [], ◌∷◌, ◌++◌, length, map, None, Result, Ok, Err, refl, sym, ap, subst, ◌∙◌, arith}
+use Rattle.std.specs.Prelude.{nat_eq, IfOk, OnOk}
 use Rattle.std.specs.List.{AllByRecursion}
-use Rattle.std.proofs.lemmas.List.{length-map, length-drop}
+use Rattle.std.proofs.lemmas.List.{length-map}
 use Rattle.std.specs.Cmp.Lexicographic.{pointwise}
 use Rattle.sha2.specs.Sha256.{sha256}
-use Rattle.byte_model.specs.Nibbles as path
-use Rattle.byte_model.specs.Nibbles.{AreNibbles}
-use Rattle.byte_model.specs.Node.{longest_value}
 use Rattle.trie_model.specs.Root.{Table, zero_digest}
 use Rattle.visit_model.specs.Seen as seen
 use Rattle.visit_model.specs.Seen.{Seen, seen_at, stated_usage}
 use Rattle.batch_model.specs.Changes.{Change, most_changes}
 use Rattle.change_model.specs.Visits.{Visits, visits_at, where_touched}
-use Rattle.update_model.specs.Sound.{AreBelow, IsBelow, StandsAt}
+use Rattle.update_model.specs.Sound.{StandsAt}
 use Rattle.update_model.specs.Tops.{empty, top_usage}
 use Rattle.update_model.specs.Updates.{Outcome, laid, no_branch, updated}
 use Rattle.update_model.proofs.LaidOver.{keeps-empty, laid_over-stands, laid_over-small}
@@ -23,7 +19,7 @@ use Rattle.update_model.proofs.Limits.{usage-small}
 use Rattle.update_model.proofs.Usages.{growth}
 use Rattle.base_core.specs.declared.hash.Digest.{Digest}
 use Rattle.trie_update.specs.Adds.{Adds}
-use Rattle.trie_update.specs.ChangesAt.{Lent, AreChangesAt, IsChangeAt, change_at, changes_at, value_lent}
+use Rattle.trie_update.specs.ChangesAt.{Lent, AreChangesAt, change_at, changes_at}
 use Rattle.trie_update.specs.Placed.{IsPlaced}
 use Rattle.trie_update.specs.Places.{Keeps, old_past, seen_past, top_visits}
 use Rattle.trie_update.specs.Sorted.{CanFinish, IsRooted, OnlyClash}
@@ -36,6 +32,7 @@ use Rattle.trie_update.specs.declared.ledger.Ledger.{Ledger}
 use Rattle.trie_update.specs.declared.old.Old.TheVariants.{Nothing}
 use Rattle.trie_update.specs.declared.updating.Placed.{Placed}
 use Rattle.trie_update.proofs.StateAnswers.{digest-of_gained}
+use Rattle.trie_update.proofs.Below.{below-changes_at}
 
 -- ---- the root
 
@@ -52,26 +49,6 @@ unfolding top_visits old_past seen_past visits_at
 visits-zero table root changes e = ap (λ (s : Seen). visits_at s changes) (sym e)
 
 -- ---- the changes of a call
-
-dropped : (n : ℕ) (p : List ℕ) → AreNibbles p → AreNibbles (drop n p)
-dropped zero p h = h
-dropped (suc n) [] h = tt
-dropped (suc n) (x ∷ p) h = dropped n p h.1
-
-at-below : (depth : ℕ) (changes : List Lent) → AllByRecursion (IsChangeAt depth) changes → AllByRecursion (IsBelow depth) (changes_at depth changes)
-at-below depth [] h = tt
-at-below depth (change ∷ changes) h =
-    let long = length-drop depth (path.nibbles change.0.now) in
-    let deep = h.0.deep in
-    let short = h.0.short in
-    (record { nibbles = dropped depth (path.nibbles change.0.now) h.0.nibbles; short = omega arith; value = lent_value change.1 h.0.value }, at-below depth changes h.1)
-  where
-    lent_value : (value : Option (Bor (List ℕ))) → IfSome value (λ v. length v.now ≤ longest_value) → IfSome (value_lent value) (λ v. length v ≤ longest_value)
-    lent_value None h = tt
-    lent_value (Some value) h = h
-
-pub below-at : (depth : ℕ) (changes : List Lent) → AreChangesAt depth changes → AreBelow depth (changes_at depth changes)
-below-at depth changes are = record { rise = are.rises; each = at-below depth changes are.each }
 
 some-at : (changes : List Lent) → 1 ≤ length changes → changes_at 0 changes ≢ []
 some-at [] some = absurd (omega arith)
@@ -96,8 +73,8 @@ module _ (table : Table) (root : Digest) (changes : List Lent) (are : AreChanges
   rooted-zero none old new told n (Ok placed) is =
       let whole : laid (λ cs. updated seen.nothing cs) empty rows ≡ updated (seen.seen table root.0) rows =
       laid-agree (λ cs. updated seen.nothing cs) no_branch empty rows (some-at changes some) tt ∙ ap (λ (s : Seen). updated s rows) (sym (seen-zero table root.0 none)) in
-      let stands : StandsAt 0 (laid no_branch empty rows).top = laid_over-stands no_branch 0 (λ cs. true) 0 empty rows tt (below-at 0 changes are) (keeps-empty 0 rows) (some-at changes some) in
-      let small : top_usage (laid no_branch empty rows).top < 2 ^ 63 = laid_over-small no_branch 0 (λ cs. true) 0 empty rows tt (below-at 0 changes are) (keeps-empty 0 rows) (some-at changes some) (omega arith) (omega arith) small_rows in
+      let stands : StandsAt 0 (laid no_branch empty rows).top = laid_over-stands no_branch 0 (λ cs. true) 0 empty rows tt (below-changes_at 0 changes are) (keeps-empty 0 rows) (some-at changes some) in
+      let small : top_usage (laid no_branch empty rows).top < 2 ^ 63 = laid_over-small no_branch 0 (λ cs. true) 0 empty rows tt (below-changes_at 0 changes are) (keeps-empty 0 rows) (some-at changes some) (omega arith) (omega arith) small_rows in
       let same : updated (seen.seen table root.0) rows ≡ laid no_branch empty rows = ap (λ (s : Seen). updated s rows) (seen-zero table root.0 none) in
       record {
         top = is.top ∙ ap (λ o. o.top) whole;

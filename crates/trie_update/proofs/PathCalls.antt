@@ -1,6 +1,6 @@
 -- What stood before a path, behind the nibbles that the changes share with it.
 use Rattle.std.proofs.Common.{◌≡◌, ◌≢◌, ℕ, zero, suc, ◌+◌, ◌<◌, ◌≤◌, ◌==◌, if◌then◌else◌, Bool, true, false, List, [], ◌∷◌, ◌++◌, length, take, drop, get_or, None, Some, option_map, Result, Ok, Err, IfOk, refl, sym, ◌∙◌, ap, ap₂, subst, arith}
-use Rattle.std.specs.List.{AllByRecursion, cons_option}
+use Rattle.std.specs.List.{cons_option}
 use Rattle.std.proofs.lemmas.List.{length-append, length-drop, length-take-le}
 use Rattle.byte_model.specs.Nibbles.{nibbles, AreNibbles}
 use Rattle.byte_model.proofs.Digits.{AreNibbles-rest}
@@ -30,6 +30,7 @@ use Rattle.trie_update.proofs.Beginnings.{behind-changes}
 use Rattle.trie_update.proofs.Lowering.{IsProper, below_nibbles, laid-lowered}
 use Rattle.trie_update.proofs.Turning.{length-changes_at}
 use Rattle.trie_update.proofs.FormerCalls.{changes-some}
+use Rattle.trie_update.proofs.Below.{all-drop, all-take}
 
 pub if_ok-both : {X E : Type 0} (r : Result X E) (P Q R : X → Type 0) → ((x : X) → P x → Q x → R x) → IfOk r P → IfOk r Q → IfOk r R
 if_ok-both (Ok x) P Q R both h k = both x h k
@@ -45,16 +46,6 @@ take_drop {X} (suc n) (x ∷ xs) = ap (λ (ys : List X). x ∷ ys) (take_drop n 
 take-all : {X : Type 0} (prefix rest : List X) → take (length prefix) (prefix ++ rest) ≡ prefix
 take-all [] rest = refl
 take-all {X} (x ∷ prefix) rest = ap (λ (ys : List X). x ∷ ys) (take-all prefix rest)
-
-all-take : {X : Type 0} (P : X → Type 0) (n : ℕ) (xs : List X) → AllByRecursion P xs → AllByRecursion P (take n xs)
-all-take P zero xs h = tt
-all-take P (suc n) [] h = tt
-all-take P (suc n) (x ∷ xs) h = (h.0, all-take P n xs h.1)
-
-all-drop : {X : Type 0} (P : X → Type 0) (n : ℕ) (xs : List X) → AllByRecursion P xs → AllByRecursion P (drop n xs)
-all-drop P zero xs h = h
-all-drop P (suc n) [] h = tt
-all-drop P (suc n) (x ∷ xs) h = all-drop P n xs h.1
 
 drop-none : {X : Type 0} (n : ℕ) (xs : List X) → length xs ≤ n → drop n xs ≡ []
 drop-none zero [] h = refl

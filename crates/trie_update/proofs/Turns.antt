@@ -11,6 +11,7 @@ use Rattle.batch_model.specs.Changes.{Change}
 use Rattle.change_model.specs.Visits.{changes_behind}
 use Rattle.trie_update.specs.ChangesAt.{Rises, AllFrom, run_of, Lent, value_lent, change_at, changes_at, IsChangeAt, AreChangesAt, IsLeft}
 use Rattle.trie_update.proofs.Runs.{RisingChanges, tails, rising, rises, after-run, below-run, below-after, rising-drop}
+use Rattle.trie_update.proofs.Below.{all-drop, all-take}
 
 -- ---- changes below a nibble rise
 
@@ -62,16 +63,6 @@ deeper depth x (change ∷ changes) h each =
     let long = longer (nibbles change.0.now) depth x h.0 in
     (record { deep = omega arith; short = each.0.short; nibbles = each.0.nibbles; value = each.0.value }, deeper depth x changes h.1 each.1)
 
-AllByRecursion-take : {X : Type 0} (P : X → Type 0) (n : ℕ) (xs : List X) → AllByRecursion P xs → AllByRecursion P (take n xs)
-AllByRecursion-take P zero xs h = tt
-AllByRecursion-take P (suc n) [] h = tt
-AllByRecursion-take P (suc n) (x ∷ xs) h = (h.0, AllByRecursion-take P n xs h.1)
-
-AllByRecursion-drop : {X : Type 0} (P : X → Type 0) (n : ℕ) (xs : List X) → AllByRecursion P xs → AllByRecursion P (drop n xs)
-AllByRecursion-drop P zero xs h = h
-AllByRecursion-drop P (suc n) [] h = tt
-AllByRecursion-drop P (suc n) (x ∷ xs) h = AllByRecursion-drop P n xs h.1
-
 -- ---- one nibble's run
 
 module _ (x depth : ℕ) (whole rest : List Lent) (left : IsLeft x depth whole rest) where
@@ -91,7 +82,7 @@ module _ (x depth : ℕ) (whole rest : List Lent) (left : IsLeft x depth whole r
   unfolding run
   run_changes = record {
     rises = subst Rises (below-run x (changes_at depth rest) rising_rest left.from ∙ ap tails (sym (changes_at-take depth run rest)) ∙ tails-changes_at depth (take run rest)) (rises (changes_behind (x ∷ []) (changes_at depth rest)) (rising-behind x (changes_at depth rest) rising_rest));
-    each = AllByRecursion-take (IsChangeAt (depth + 1)) run rest (deeper depth x rest left.from left.changes.each);
+    each = all-take (IsChangeAt (depth + 1)) run rest (deeper depth x rest left.from left.changes.each);
   }
 
   pub run_left : IsLeft (x + 1) depth whole (drop run rest)
@@ -100,7 +91,7 @@ module _ (x depth : ℕ) (whole rest : List Lent) (left : IsLeft x depth whole r
       let as_drop = changes_at-drop depth run rest in
       let next : suc x ≡ x + 1 = omega arith in
       record {
-        changes = record { rises = subst Rises (sym as_drop) (rises (drop run (changes_at depth rest)) (rising-drop run (changes_at depth rest) rising_rest)); each = AllByRecursion-drop (IsChangeAt depth) run rest left.changes.each };
+        changes = record { rises = subst Rises (sym as_drop) (rises (drop run (changes_at depth rest)) (rising-drop run (changes_at depth rest) rising_rest)); each = all-drop (IsChangeAt depth) run rest left.changes.each };
         from = subst (λ (cs : List Change). AllFrom (x + 1) cs) (sym as_drop) (subst (λ y. AllFrom y (drop run (changes_at depth rest))) next (after-run x (changes_at depth rest) rising_rest left.from));
         below = λ y h. left.below y (omega arith) ∙ below-after x y (changes_at depth rest) (omega arith) ∙ ap (changes_behind (y ∷ [])) (sym as_drop);
         fewer = let shorter = left.fewer in let all = length-drop run rest in omega arith;

@@ -1,5 +1,5 @@
 use Rattle.std.proofs.Common.{refl, ◌∙◌}
-use Rattle.shard_cmd.proofs.Scripts.{IsUpTo-begin, IsUpTo-laid, ends_whole, ends_stopped, ends_full, nothing_left}
+use Rattle.shard_cmd.proofs.Scripts.{IsUpTo-begin, IsUpTo-laid, ends_whole, ends_stopped, ends_asked, nothing_left}
 use Rattle.shard_cmd.proofs.root.read_pairs.Goals as goal
 
 pub loop-lines-init : goal.loop-lines-init
@@ -21,19 +21,19 @@ returns-in-Ok-None-clause-nothing_left g c = λ _.
 
 pub loop-lines-preserved : goal.loop-lines-preserved
 loop-lines-preserved g c = record {
-  up_to = IsUpTo-laid (g.S.Source.left c.args.source.now) (g.S.Source.left c.loop-lines.source) (g.S.Source.left c.next_event.new.source) _ c.loop-lines.lines c.next_event.new.lines c.loop-lines.pairs c.lay.new.pairs c.in-Ok-Some.event
-      c.loop-lines.invariant.most (rw c.in-Ok-Some.field-0-is at c.in-Ok-Some.ensures.more) (rw c.in-Ok-Some.field-0-is at c.in-Ok-Some.ensures.next) (rw c.in-Ok-true.field-0-test at c.in-Ok-true.ensures.lays) c.loop-lines.invariant.up_to;
+  up_to = IsUpTo-laid (g.S.Source.left c.args.source.now) (g.S.Source.left c.loop-lines.source) (g.S.Source.left c.next_event.new.source) _ _ c.loop-lines.lines c.next_event.new.lines c.loop-lines.pairs c.lay.new.pairs c.in-Ok-Some.event
+      c.loop-lines.invariant.most (c.number.ensures ∙ c.next_event.ensures.number) (rw c.in-Ok-Some.field-0-is at c.in-Ok-Some.ensures.more) (rw c.in-Ok-Some.field-0-is at c.in-Ok-Some.ensures.next) (rw c.in-Ok-None-lay.field-0-is at c.in-Ok-None-lay.ensures.lays) c.loop-lines.invariant.up_to;
   most = c.lay.ensures.most ∙ c.loop-lines.invariant.most;
   faults = c.in-Ok-Some.ensures.counted ∙ c.loop-lines.invariant.faults;
 }
 
-pub returns-in-Ok-false-clause-end : goal.returns-in-Ok-false-clause-end
-returns-in-Ok-false-clause-end g c = λ limits same.
-    ends_full (g.S.Source.left c.args.source.now) (g.S.Source.left c.loop-lines.source) (g.S.Source.left c.next_event.new.source) _ c.loop-lines.lines c.next_event.new.lines c.loop-lines.pairs c.lay.new.pairs c.in-Ok-Some.event limits same
-    c.loop-lines.invariant.most (rw c.in-Ok-Some.field-0-is at c.in-Ok-Some.ensures.more) (rw c.in-Ok-Some.field-0-is at c.in-Ok-Some.ensures.next) (rw c.in-Ok-false.field-0-test at c.in-Ok-false.ensures.lays) c.loop-lines.invariant.up_to
+pub returns-in-Ok-Some-lay-clause-end : goal.returns-in-Ok-Some-lay-clause-end
+returns-in-Ok-Some-lay-clause-end g c = λ limits same.
+    ends_asked (g.S.Source.left c.args.source.now) (g.S.Source.left c.loop-lines.source) (g.S.Source.left c.next_event.new.source) _ _ c.loop-lines.lines c.next_event.new.lines c.loop-lines.pairs c.lay.new.pairs c.in-Ok-Some.event c.in-Ok-Some-lay.end limits same
+    c.loop-lines.invariant.most (c.number.ensures ∙ c.next_event.ensures.number) (rw c.in-Ok-Some.field-0-is at c.in-Ok-Some.ensures.more) (rw c.in-Ok-Some.field-0-is at c.in-Ok-Some.ensures.next) (rw c.in-Ok-Some-lay.field-0-is at c.in-Ok-Some-lay.ensures.lays) c.loop-lines.invariant.up_to
 
 pub returns-in-Err-clause-end : goal.returns-in-Err-clause-end
 returns-in-Err-clause-end g c = λ limits same.
     rw c.stopped.ensures
-    (ends_stopped (g.S.Source.left c.args.source.now) (g.S.Source.left c.loop-lines.source) (g.S.Source.left c.next_event.new.source) _ c.number.result c.loop-lines.lines c.next_event.new.lines c.loop-lines.pairs.state limits c.in-Err.stop same
-    (c.number.ensures ∙ c.next_event.ensures.number) c.loop-lines.invariant.up_to c.in-Err.ensures.next)
+    (ends_stopped (g.S.Source.left c.args.source.now) (g.S.Source.left c.loop-lines.source) (g.S.Source.left c.next_event.new.source) _ c.number-in-Err.result c.loop-lines.lines c.next_event.new.lines c.loop-lines.pairs.state limits c.in-Err.stop same
+    (c.number-in-Err.ensures ∙ c.next_event.ensures.number) c.loop-lines.invariant.up_to c.in-Err.ensures.next)

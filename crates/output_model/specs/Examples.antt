@@ -1,0 +1,28 @@
+-- The ids and lines of worked histories.
+use Rattle.std.specs.Prelude.{ℕ, List, ◌++◌, codes, replicate}
+use Rattle.output_model.specs.Ends.{RunLimits, line_of}
+
+-- an id of 64 times the same digit: that of the start, and two more
+abbrev pub start_id : List ℕ
+start_id = replicate 64 48
+
+abbrev pub one_id : List ℕ
+one_id = replicate 64 49
+
+abbrev pub two_id : List ℕ
+two_id = replicate 64 50
+
+abbrev pub few : RunLimits
+few = record { pairs = 4; blocks = 4; changes = 4 }
+
+-- a block over the start
+abbrev pub begins_one : List ℕ
+begins_one = line_of (codes "block " ++ one_id ++ codes " " ++ start_id ++ codes " 7")
+
+-- its end, without a change
+abbrev pub ends_one : List ℕ
+ends_one = line_of (codes "end")
+
+-- and that it was accepted, with the root of the empty state
+abbrev pub one_accepted : List ℕ
+one_accepted = line_of (codes "block " ++ one_id ++ codes " ok " ++ start_id)

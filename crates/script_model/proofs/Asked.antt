@@ -1,0 +1,165 @@
+-- What lines ask for is within the limits.
+use Rattle.std.proofs.Common.{◌≡◌, ℕ, suc, ◌*◌, ◌^◌, ◌<◌, ◌≤◌, ◌&&◌, Bool, true, false, cond, eqb, leb, ltb, List, [], ◌∷◌, length, Option, Some, None, Result, Ok, Err, refl, ap, subst, arith}
+use Rattle.std.specs.Prelude.{codes}
+use Rattle.std.specs.Result.{result_ok}
+use Rattle.std.specs.Str.{bytes_eq}
+use Rattle.std.specs.List.{list_any, list_all, slice_split}
+use Rattle.std.specs.Option.{option_map}
+use Rattle.std.proofs.lemmas.Bool.{leb-true, ltb-true, eqb-true}
+use Rattle.hex.specs.Hex.{decode_of, IsBytes}
+use Rattle.hex.specs.declared.error.FromHexError.{FromHexError}
+use Rattle.hex.proofs.HexLemmas.{decode_of-ok}
+use Rattle.byte_model.specs.Nibbles.{AreBytes}
+use Rattle.byte_model.specs.Node.{longest_value}
+use Rattle.trie_model.specs.State.{IsPair, longest_key}
+use Rattle.script_model.specs.Lines.{Event, nothing, block, block_end, set, delete, head, flat, both, all_three, comment, event_of, event_of_words, event_of_one, event_of_two, event_of_three, event_of_four, is_hash, is_carriage_return, is_space}
+use Rattle.script_model.specs.Bounds.{IsId, IsKey, IsAsked}
+use Rattle.script_model.specs.Spellings.{hex_bytes, at_most, key_of, value_of, id_of, number_of, is_decimal_digit, most_digits, no_bytes}
+use Rattle.std.specs.Str.Parse.{digits_value}
+use Rattle.byte_model.specs.Node.{digest_width}
+
+-- a text that writes bytes writes at most so many
+pub record Within (most : ℕ) (bytes : List ℕ) : Type 0 where
+  pub are_bytes : AreBytes bytes
+  pub within : length bytes ≤ most
+
+AreBytes-by_index : (bytes : List ℕ) → IsBytes bytes → AreBytes bytes
+AreBytes-by_index [] h = tt
+AreBytes-by_index (b ∷ bytes) h = (h 0, AreBytes-by_index bytes (λ i. h (suc i)))
+
+decoded_bytes : (text bytes : List ℕ) (r : Result (List ℕ) FromHexError) → decode_of text ≡ r → result_ok r ≡ Some bytes → AreBytes bytes
+decoded_bytes text bytes (Ok found) e h =
+    let same : found ≡ bytes = cc in
+    AreBytes-by_index bytes (subst IsBytes same (decode_of-ok text found e).3)
+decoded_bytes text bytes (Err f) e h = absurd cc
+
+guarded_bytes : (b : Bool) (text bytes : List ℕ) → cond b None (result_ok (decode_of text)) ≡ Some bytes → AreBytes bytes
+guarded_bytes true text bytes h = absurd cc
+guarded_bytes false text bytes h = decoded_bytes text bytes (decode_of text) refl h
+
+dashed_bytes : (b : Bool) (text bytes : List ℕ) → cond b (Some []) (cond (eqb (length text) 0) None (result_ok (decode_of text))) ≡ Some bytes → AreBytes bytes
+dashed_bytes true text bytes h = let same : [] ≡ bytes = cc in subst AreBytes same tt
+dashed_bytes false text bytes h = guarded_bytes (eqb (length text) 0) text bytes h
+
+hex_bytes-bytes : (text bytes : List ℕ) → hex_bytes text ≡ Some bytes → AreBytes bytes
+unfolding hex_bytes
+hex_bytes-bytes text bytes e = dashed_bytes (bytes_eq text no_bytes) text bytes e
+
+kept : (b : Bool) (found bytes : List ℕ) → cond b (Some found) None ≡ Some bytes → (b ≡ true) × (found ≡ bytes)
+kept true found bytes e = (refl, cc)
+kept false found bytes e = absurd cc
+
+pub at_most-within : (most : ℕ) (o : Option (List ℕ)) (bytes : List ℕ) → at_most most o ≡ Some bytes → (o ≡ Some bytes) × (length bytes ≤ most)
+at_most-within most None bytes e = absurd cc
+at_most-within most (Some found) bytes e =
+    let k = kept (leb (length found) most) found bytes e in
+    (ap Some k.1, subst (λ (b : List ℕ). length b ≤ most) k.1 (leb-true (length found) most k.0))
+
+within : (most : ℕ) (text bytes : List ℕ) → at_most most (hex_bytes text) ≡ Some bytes → Within most bytes
+within most text bytes e = let w = at_most-within most (hex_bytes text) bytes e in record { are_bytes = hex_bytes-bytes text bytes w.0; within = w.1 }
+
+-- ---- by kind
+
+pub key-within : (text key : List ℕ) → key_of text ≡ Some key → IsKey key
+unfolding key_of
+key-within text key e = let w = within longest_key text key e in record { bytes = w.are_bytes; short = w.within }
+
+value-within : (text value : List ℕ) → value_of text ≡ Some value → Within longest_value value
+unfolding value_of
+value-within text value e = within longest_value text value e
+
+pub id-within : (text id : List ℕ) → id_of text ≡ Some id → IsId id
+unfolding id_of
+id-within text id e = by_length (eqb (length text) (2 * digest_width)) refl e
+  where
+    decoded : length text ≡ 2 * digest_width → (r : Result (List ℕ) FromHexError) → decode_of text ≡ r → result_ok r ≡ Some id → IsId id
+    decoded twice (Ok found) h f =
+        let same : found ≡ id = cc in
+        let ok = decode_of-ok text found h in
+        let width : length found ≡ digest_width = omega arith in
+        record { bytes = subst AreBytes same (AreBytes-by_index found ok.3); width = subst (λ (b : List ℕ). length b ≡ digest_width) same width }
+    decoded twice (Err f) h g = absurd cc
+
+    by_length : (b : Bool) → eqb (length text) (2 * digest_width) ≡ b → cond b (result_ok (decode_of text)) None ≡ Some id → IsId id
+    by_length true h f = decoded (eqb-true (length text) (2 * digest_width) h) (decode_of text) refl f
+    by_length false h f = absurd cc
+
+pub number-within : (text : List ℕ) (n : ℕ) → number_of text ≡ Some n → n < 2 ^ 64
+unfolding number_of
+number-within text n e = by_tests (leb 1 (length text) && leb (length text) most_digits && list_all is_decimal_digit text) (ltb (digits_value 10 text) (2 ^ 64)) refl e
+  where
+    by_tests : (a b : Bool) → ltb (digits_value 10 text) (2 ^ 64) ≡ b → cond (a && b) (Some (digits_value 10 text)) None ≡ Some n → n < 2 ^ 64
+    by_tests true true h f = let same : digits_value 10 text ≡ n = cc in subst (λ m. m < 2 ^ 64) same (ltb-true (digits_value 10 text) (2 ^ 64) h)
+    by_tests true false h f = absurd cc
+    by_tests false b h f = absurd cc
+
+-- ---- by words
+
+both-within : {A B : Type 0} (make : A → B → Event) (a : Option A) (b : Option B) (asked : Event) → both make a b ≡ Some asked
+    → ((x : A) (y : B) → a ≡ Some x → b ≡ Some y → IsAsked (make x y)) → IsAsked asked
+both-within make None b asked e h = absurd cc
+both-within make (Some x) None asked e h = absurd cc
+both-within make (Some x) (Some y) asked e h = let same : make x y ≡ asked = cc in subst IsAsked same (h x y refl refl)
+
+all_three-within : {A B C : Type 0} (make : A → B → C → Event) (a : Option A) (b : Option B) (c : Option C) (asked : Event) → all_three make a b c ≡ Some asked
+    → ((x : A) (y : B) (z : C) → a ≡ Some x → b ≡ Some y → c ≡ Some z → IsAsked (make x y z)) → IsAsked asked
+all_three-within make None b c asked e h = absurd cc
+all_three-within make (Some x) b c asked e h = both-within (make x) b c asked e (λ y z. h x y z refl)
+
+mapped-within : {A : Type 0} (make : A → Event) (a : Option A) (asked : Event) → option_map make a ≡ Some asked → ((x : A) → a ≡ Some x → IsAsked (make x)) → IsAsked asked
+mapped-within make None asked e h = absurd cc
+mapped-within make (Some x) asked e h = let same : make x ≡ asked = cc in subst IsAsked same (h x refl)
+
+one-within : (b : Bool) (asked : Event) → cond b (Some block_end) None ≡ Some asked → IsAsked asked
+unfolding IsAsked
+one-within true asked e = let same : block_end ≡ asked = cc in subst IsAsked same tt
+one-within false asked e = absurd cc
+
+two-within : (b c : Bool) (text : List ℕ) (asked : Event) → cond b (option_map delete (key_of text)) (cond c (option_map head (id_of text)) None) ≡ Some asked → IsAsked asked
+unfolding IsAsked
+two-within true c text asked e = mapped-within delete (key_of text) asked e (λ key k. key-within text key k)
+two-within false true text asked e = mapped-within head (id_of text) asked e (λ id i. id-within text id i)
+two-within false false text asked e = absurd cc
+
+three-within : (b c : Bool) (one two : List ℕ) (asked : Event) → cond b (both set (key_of one) (value_of two)) (cond c (both flat (id_of one) (key_of two)) None) ≡ Some asked → IsAsked asked
+unfolding IsAsked
+three-within true c one two asked e = both-within set (key_of one) (value_of two) asked e (λ key value k v.
+    let key_is = key-within one key k in
+    let value_is = value-within two value v in
+    record { key = key_is.bytes; key_length = key_is.short; value = value_is.are_bytes; value_length = value_is.within })
+three-within false true one two asked e = both-within flat (id_of one) (key_of two) asked e (λ id key i k. (id-within one id i, key-within two key k))
+three-within false false one two asked e = absurd cc
+
+four-within : (b : Bool) (one two three : List ℕ) (asked : Event) → cond b (all_three block (id_of one) (id_of two) (number_of three)) None ≡ Some asked → IsAsked asked
+unfolding IsAsked
+four-within true one two three asked e = all_three-within block (id_of one) (id_of two) (number_of three) asked e (λ id prev height i p n. (id-within one id i, id-within two prev p, number-within three height n))
+four-within false one two three asked e = absurd cc
+
+words-within : (words : List (List ℕ)) (asked : Event) → event_of_words words ≡ Some asked → IsAsked asked
+words-within [] asked e = absurd cc
+words-within (word ∷ []) asked e = one-within (bytes_eq word (codes "end")) asked e
+words-within (word ∷ a ∷ []) asked e = two-within (bytes_eq word (codes "del")) (bytes_eq word (codes "head")) a asked e
+words-within (word ∷ a ∷ b ∷ []) asked e = three-within (bytes_eq word (codes "set")) (bytes_eq word (codes "flat")) a b asked e
+words-within (word ∷ a ∷ b ∷ c ∷ []) asked e = four-within (bytes_eq word (codes "block")) a b c asked e
+words-within (word ∷ a ∷ b ∷ c ∷ d ∷ words) asked e = absurd cc
+
+-- ---- by lines
+
+some_nothing : (asked : Event) → Some nothing ≡ Some asked → IsAsked asked
+unfolding IsAsked
+some_nothing asked e = let same : nothing ≡ asked = cc in subst IsAsked same tt
+
+line-within : (hash carriage : Bool) (words : List (List ℕ)) (asked : Event) → cond hash (cond carriage None (Some nothing)) (event_of_words words) ≡ Some asked → IsAsked asked
+line-within true true words asked e = absurd cc
+line-within true false words asked e = some_nothing asked e
+line-within false carriage words asked e = words-within words asked e
+
+pub asked-within : (line : List ℕ) (asked : Event) → event_of line ≡ Some asked → IsAsked asked
+unfolding event_of
+asked-within [] asked e = some_nothing asked e
+asked-within (byte ∷ line) asked e = line-within (is_hash byte) (list_any is_carriage_return line) (slice_split is_space (byte ∷ line)) asked e
+
+-- the pair of a `set` line
+pub IsPair-event_of : (line key value : List ℕ) → event_of line ≡ Some (set key value) → IsPair (key, value)
+unfolding IsAsked
+IsPair-event_of line key value e = asked-within line (set key value) e

@@ -1,0 +1,23 @@
+-- What the things keep to that lines ask for.
+use Rattle.std.specs.Prelude.{◌≡◌, ℕ, ◌^◌, ◌<◌, ◌≤◌, List, length, ⊤}
+use Rattle.byte_model.specs.Nibbles.{AreBytes}
+use Rattle.byte_model.specs.Node.{digest_width}
+use Rattle.trie_model.specs.State.{IsPair, longest_key}
+use Rattle.script_model.specs.Lines.{Event, nothing, block, set, delete, block_end, head, flat}
+
+pub record IsId (id : List ℕ) : Type 0 where
+  pub bytes : AreBytes id
+  pub width : length id ≡ digest_width
+
+pub record IsKey (key : List ℕ) : Type 0 where
+  pub bytes : AreBytes key
+  pub short : length key ≤ longest_key
+
+unfoldable pub IsAsked : Event → Type 0
+IsAsked nothing = ⊤
+IsAsked (block id prev height) = IsId id × IsId prev × (height < 2 ^ 64)
+IsAsked (set key value) = IsPair (key, value)
+IsAsked (delete key) = IsKey key
+IsAsked block_end = ⊤
+IsAsked (head id) = IsId id
+IsAsked (flat id key) = IsId id × IsKey key
