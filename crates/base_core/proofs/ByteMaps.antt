@@ -1,14 +1,18 @@
 -- Maps by byte strings, such as digests and keys, at the one that a change names and at every other.
-use Rattle.std.proofs.Common.{Ordering, ◌≡◌, ◌≢◌, Bool, true, false, cond, List, ℕ, None, Some, ◌⊎◌, inl, inr, ⊎_elim, refl, sym, ap, ◌∙◌}
+use Rattle.std.proofs.Common.{Ordering, Vec, ◌≡◌, ◌≢◌, Bool, true, false, cond, List, ℕ, None, Some, ◌⊎◌, inl, inr, ⊎_elim, refl, sym, ap, ◌∙◌}
 use Rattle.std.specs.Ordering.{nat_cmp, eq_by_cmp}
 use Rattle.std.specs.Cmp.Lexicographic.{slice_cmp, nat_list_cmp_total, texts_ties, bytes_decides, pointwise}
 use Rattle.std.specs.Prelude.{nat_eq, not}
 use Rattle.std.proofs.lemmas.Bool.{true≢false, not-false}
 use Rattle.std.proofs.lemmas.Map.Lookups.{exact_bytes}
 use Rattle.std.specs.FinMap.{FinMap, get, insert, remove, get-insert, get-remove, same_map}
+use Rattle.std.specs.declared.alloc.Global.{Global}
 
 abbrev pub order : List ℕ → List ℕ → Ordering
 order = slice_cmp nat_cmp
+
+abbrev pub by_items : Vec ℕ Global → Vec ℕ Global → Ordering
+by_items x y = slice_cmp nat_cmp x.items y.items
 
 abbrev pub is_same : List ℕ → List ℕ → Bool
 is_same = eq_by_cmp order

@@ -1,9 +1,9 @@
 -- The list of entries in a tree against the map that it is seen as.
-use Rattle.std.proofs.Common.{◌≡◌, ℕ, ◌+◌, ◌<◌, ◌≤◌, Bool, true, false, cond, ◌&&◌, List, [], ◌∷◌, length, Option, IsSome, IfSome, IfNone, None, Some, Ordering, Less, Equal, Greater, Vec, is_some, IsTrue, T, ◌⊎◌, inl, inr, Result, Ok, Err, OnOk, OnErr, Bor, refl, sym, ap, subst, ◌∙◌, arith, Fits, w8, get_or, suc}
+use Rattle.std.proofs.Common.{◌≡◌, ℕ, ◌+◌, ◌<◌, ◌≤◌, Bool, true, false, cond, ◌&&◌, List, [], ◌∷◌, length, Option, IsSome, IfSome, IfNone, None, Some, Less, Equal, Greater, Vec, is_some, IsTrue, T, ◌⊎◌, inl, inr, Result, Ok, Err, OnOk, OnErr, Bor, refl, sym, ap, subst, ◌∙◌, arith, Fits, w8, get_or, suc}
 use Rattle.std.proofs.lemmas.List.{length-map}
-use Rattle.std.specs.Ordering.{nat_cmp, is_eq, match_ordering}
+use Rattle.std.specs.Ordering.{is_eq, match_ordering}
 use Rattle.std.specs.List.{AllByRecursion, cons_option}
-use Rattle.std.specs.Cmp.Lexicographic.{slice_cmp, nat_list_cmp_total}
+use Rattle.std.specs.Cmp.Lexicographic.{nat_list_cmp_total}
 use Rattle.std.specs.Map.{lookup}
 use Rattle.std.specs.BTreeMap.{insert_entry, is_at}
 use Rattle.std.proofs.lemmas.Bool.Decides.{nat_tests}
@@ -21,10 +21,7 @@ use Rattle.trie_model.specs.State.{longest_key}
 use Rattle.base_core.specs.declared.put_error.PutError.TheVariants.{Full}
 use Rattle.batch_model.proofs.Laying.{same_key}
 use Rattle.base_core.specs.KeptMaps.{Kept, KeyMap, IsKeptSorted, shown_entries, shown_map, refusal_of}
-use Rattle.base_core.proofs.ByteMaps.{order}
-
-abbrev by_items : Vec ℕ Global → Vec ℕ Global → Ordering
-by_items x y = slice_cmp nat_cmp x.items y.items
+use Rattle.base_core.proofs.ByteMaps.{order, by_items}
 
 -- the value at a key in the tree
 abbrev found : {X : Type 0} → Kept X → List ℕ → Option X

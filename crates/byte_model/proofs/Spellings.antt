@@ -10,6 +10,7 @@ use Rattle.byte_model.specs.Laws.{IsDigest, NamesValue, FitsRecord, SameNode}
 use Rattle.byte_model.proofs.Lists.{first_same, rest_same}
 use Rattle.byte_model.proofs.Widths.{length-borsh_u16, length-borsh_u32, length-borsh_u64, borsh_u16-same, borsh_u32-same, borsh_u64-same}
 use Rattle.byte_model.proofs.Paths.{packed-same}
+use Rattle.byte_model.proofs.Below.{sum_below-agree, joined_below-agree}
 
 -- two lists joined are told apart where the prefixes are as long
 pub split_prefix : (xs ys us vs : List ℕ) → length xs ≡ length ys → xs ++ us ≡ ys ++ vs → (xs ≡ ys) × (us ≡ vs)
@@ -109,7 +110,20 @@ spelled_children-same f g fits fits' e =
     let there = bits_same f g 16 (borsh_u16-same (bitmap f) (bitmap g) (bits-lt f 16) (bits-lt g 16) parts.0) in
     digests_same f g 16 there fits fits' parts.1
 
+-- what is spelled of children does not depend on any further on
+pub spelled_children-agree : (f g : ℕ → Option (List ℕ)) → ((x : ℕ) → x < 16 → f x ≡ g x) → spelled_children f ≡ spelled_children g
+unfolding spelled_children
+spelled_children-agree f g same =
+    ap₂ (λ (bits : ℕ) (digests : List ℕ). borsh_u16 bits ++ digests)
+    (sum_below-agree (child_bit f) (child_bit g) 16 (λ x small. ap (λ o. if is_some o then 2 ^ x else 0) (same x small)))
+    (joined_below-agree (λ x. child_digest (f x)) (λ x. child_digest (g x)) 16 (λ x small. ap child_digest (same x small)))
+
 -- ---- nodes
+
+pub spelled_branch-agree : (ref : Option ValueRef) (f g : ℕ → Option (List ℕ)) (used : ℕ) → ((x : ℕ) → x < 16 → f x ≡ g x) → spelled (branch ref f) used ≡ spelled (branch ref g) used
+unfolding spelled
+spelled_branch-agree None f g used same = ap (λ (children : List ℕ). 1 ∷ children ++ borsh_u64 used) (spelled_children-agree f g same)
+spelled_branch-agree (Some ref) f g used same = ap (λ (children : List ℕ). 2 ∷ spelled_value ref ++ children ++ borsh_u64 used) (spelled_children-agree f g same)
 
 -- the first byte tells the kind of a node
 abbrev ordinal : Node → ℕ

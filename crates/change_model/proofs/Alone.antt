@@ -126,9 +126,9 @@ found_member (first ∷ rows) row h = go (same_path first.0 row.0) refl h (found
 pub all_found : (P : List ℕ → Type 0) (rows : List Row) → ((q v : List ℕ) → found_at q rows ≡ Some v → P q) → AllByRecursion (λ row. P row.0) rows
 all_found P rows each = all_of (λ row. P row.0) rows (λ row h. let r = found_member rows row h in each row.0 r.0 r.1)
 
-no_changes : (p : List ℕ) → changes_behind p [] ≡ []
+pub none-behind : (p : List ℕ) → changes_behind p [] ≡ []
 unfolding changes_behind
-no_changes p = refl
+none-behind p = refl
 
 -- Where no change stands, nothing below the top remains alone: a fork's rows don't all begin with one nibble.
 pub none_alone : (rows later : List Row) (q : List ℕ) → IsLaid rows [] later → q ≢ [] → alone rows [] later q ≡ false
@@ -141,7 +141,7 @@ none_alone rows later q laid some = false_from_ne_true (alone rows [] later q) (
         let p : List ℕ = s.0 in
         let x : ℕ = s.1 in
         let h = alone_to rows [] later p x (subst (λ (w : List ℕ). alone rows [] later w ≡ true) s.2 e) in
-        let below_laid : IsLaid (below p rows) [] (below p later) = subst (λ (cs : List Change). IsLaid (below p rows) cs (below p later)) (no_changes p) (laid-below p rows [] later laid) in
+        let below_laid : IsLaid (below p rows) [] (below p later) = subst (λ (cs : List Change). IsLaid (below p rows) cs (below p later)) (none-behind p) (laid-below p rows [] later laid) in
         let all : AllHavePrefix (x ∷ []) (below p rows) = all_found (HasPrefix (x ∷ [])) (below p rows) (λ path v found. found_all (HasPrefix (x ∷ [])) (below p later) path v h.all (below_laid.at path ∙ found)) in
         fork-prefix x [] (below p rows) all h.fork
 

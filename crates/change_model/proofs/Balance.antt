@@ -1,14 +1,12 @@
 -- What a batch takes out of the texts of a state and what it puts in: both states have the rest, text by text.
-use Rattle.std.proofs.Common.{◌≡◌, ℕ, ◌+◌, ◌-◌, ◌&&◌, Bool, true, false, cond, not, T, length, List, [], ◌∷◌, map, Option, None, Some, is_some, is_none, Less, Equal, nat_cmp, refl, sym, ◌∙◌, ap, ap₂, subst, ◌⊎◌, inl, inr, arith}
+use Rattle.std.proofs.Common.{◌≡◌, ℕ, ◌+◌, ◌-◌, ◌&&◌, Bool, true, false, cond, not, T, length, List, [], ◌∷◌, map, Option, None, Some, is_some, is_none, nat_cmp, refl, sym, ◌∙◌, ap, ap₂, subst, ◌⊎◌, inl, inr, arith}
 use Rattle.std.specs.List.{AllByRecursion, filter, filter_map, cons_option, sum_by, count_by}
 use Rattle.std.specs.List.Sorted.{IsStrictlySortedBy}
 use Rattle.std.specs.Option.{option_map}
-use Rattle.std.specs.Ordering.{ordering_reverse}
-use Rattle.std.specs.Cmp.{tied_itself}
 use Rattle.std.specs.Cmp.Lexicographic.{slice_cmp, nat_list_cmp_total}
 use Rattle.std.specs.FinMap.{entries, entries_sorted, get, get-entries, find, is_sorted}
 use Rattle.std.specs.FinMap.Entries.{where_key, below_all, find-where_key, is_sorted-where_key, same_entries}
-use Rattle.std.proofs.lemmas.Bool.{false≢true, or_parts, or_from}
+use Rattle.std.proofs.lemmas.Bool.{false≢true, or_parts, or_from, not-true, not-false}
 use Rattle.std.proofs.lemmas.List.Sums.{sum_by-cons, sum_by-append}
 use Rattle.std.proofs.lemmas.List.Folds.{fold-map}
 use Rattle.std.proofs.lemmas.List.Filters.{sum_by-filter_both}
@@ -18,7 +16,7 @@ use Rattle.trie_model.specs.State.{State, Row, rows_of}
 use Rattle.trie_model.specs.Root.{texts_of, text_at, places_of}
 use Rattle.trie_model.proofs.Members.{IsIn, contains_of_in, in_of_contains, all_at}
 use Rattle.trie_model.proofs.Worked.{Pair, rows_of_pairs}
-use Rattle.trie_model.proofs.Order.{Before, Rising, rising-places_of}
+use Rattle.trie_model.proofs.Order.{Before, Rising, rising-places_of, not_before_itself, not_before_back}
 use Rattle.batch_model.specs.Changes.{Changes, Change, after, decided, changed_paths}
 use Rattle.change_model.specs.Places.{leads_to, is_place_of, is_written, written_places}
 use Rattle.change_model.specs.Ledger.{set_values, made_texts, fresh, gone}
@@ -141,19 +139,6 @@ set_values-after state changes =
 
 -- ---- the texts of places
 
--- a path does not stand before itself
-before_itself : (p : List ℕ) → Before p p → ⊥
-before_itself p h = different (sym h ∙ tied_itself nat_list_cmp_total p)
-  where
-    different : Less ≡ Equal → ⊥
-    different e = cc
-
-not_before_back : (p q : List ℕ) → Before p q → Before q p → ⊥
-not_before_back p q h k = different (sym h ∙ (nat_list_cmp_total).antisymm p q ∙ ap ordering_reverse k)
-  where
-    different : Less ≡ ordering_reverse Less → ⊥
-    different e = cc
-
 -- two rising lists with the same members are one
 same_rising : (ps qs : List (List ℕ)) → Rising ps → Rising qs → ((p : List ℕ) → IsIn ps p → IsIn qs p) → ((p : List ℕ) → IsIn qs p → IsIn ps p) → ps ≡ qs
 unfolding IsStrictlySortedBy
@@ -164,13 +149,13 @@ same_rising (p ∷ ps) (q ∷ qs) h k to from = go (λ e. same_rising ps qs h.1 
   where
     rest : p ≡ q → (r : List ℕ) → IsIn ps r → IsIn qs r
     rest e r i = elim (to r (inr i)) [
-      | inl same ↦ absurd (before_itself r (subst (λ (s : List ℕ). Before s r) (e ∙ same) (all_at (λ s. Before p s) ps r h.0 i)))
+      | inl same ↦ absurd (not_before_itself r (subst (λ (s : List ℕ). Before s r) (e ∙ same) (all_at (λ s. Before p s) ps r h.0 i)))
       | inr j ↦ j
     ]
 
     back : p ≡ q → (r : List ℕ) → IsIn qs r → IsIn ps r
     back e r i = elim (from r (inr i)) [
-      | inl same ↦ absurd (before_itself r (subst (λ (s : List ℕ). Before s r) (sym e ∙ same) (all_at (λ s. Before q s) qs r k.0 i)))
+      | inl same ↦ absurd (not_before_itself r (subst (λ (s : List ℕ). Before s r) (sym e ∙ same) (all_at (λ s. Before q s) qs r k.0 i)))
       | inr j ↦ j
     ]
 
@@ -185,14 +170,6 @@ kept_in_new state changes = filter (λ place. not (is_written state changes plac
 kept_of_old : State → Changes → List (List ℕ)
 kept_of_old state changes = filter (λ place. not (is_given_up state changes place)) (places_of state)
 
-is_false : (b : Bool) → not b ≡ true → b ≡ false
-is_false true h = absurd (false≢true h)
-is_false false h = refl
-
-is_true : (b : Bool) → not b ≡ false → b ≡ true
-is_true true h = refl
-is_true false h = absurd (false≢true (sym h))
-
 -- the places that are not written are those that are not given up
 kept_alike : (state : State) (changes : Changes) → kept_in_new state changes ≡ kept_of_old state changes
 unfolding kept_in_new kept_of_old is_written is_given_up
@@ -202,15 +179,15 @@ kept_alike state changes =
     (IsStrictlySortedBy-filter (slice_cmp nat_cmp) (λ place. not (is_given_up state changes place)) (places_of state) (rising-places_of state))
     (λ place i.
     let r = in_filter_from (λ p. not (is_written state changes p)) (places_of (after state changes)) place i in
-    let parts = or_parts (leads_to (changed_paths changes) place) (not (is_place_of state place)) (is_false _ r.1) in
+    let parts = or_parts (leads_to (changed_paths changes) place) (not (is_place_of state place)) (not-true _ r.1) in
     in_filter (λ p. not (is_given_up state changes p)) (places_of state) place
-    (in_of_contains (places_of state) place (place_from_test state place (is_true _ parts.1)))
+    (in_of_contains (places_of state) place (place_from_test state place (not-false _ parts.1)))
     (ap not (or_from _ _ parts.0 (ap not (is_place (after state changes) place (contains_of_in (places_of (after state changes)) place r.0))))))
     (λ place i.
     let r = in_filter_from (λ p. not (is_given_up state changes p)) (places_of state) place i in
-    let parts = or_parts (leads_to (changed_paths changes) place) (not (is_place_of (after state changes) place)) (is_false _ r.1) in
+    let parts = or_parts (leads_to (changed_paths changes) place) (not (is_place_of (after state changes) place)) (not-true _ r.1) in
     in_filter (λ p. not (is_written state changes p)) (places_of (after state changes)) place
-    (in_of_contains (places_of (after state changes)) place (place_from_test (after state changes) place (is_true _ parts.1)))
+    (in_of_contains (places_of (after state changes)) place (place_from_test (after state changes) place (not-false _ parts.1)))
     (ap not (or_from _ _ parts.0 (ap not (is_place state place (contains_of_in (places_of state) place r.0))))))
 
 -- and have the same texts
@@ -219,7 +196,7 @@ unfolding kept_in_new is_written
 kept_texts state changes =
     map-agree_in (text_at (after state changes)) (text_at state) (kept_in_new state changes) (λ place i.
     let r = in_filter_from (λ p. not (is_written state changes p)) (places_of (after state changes)) place i in
-    let parts = or_parts (leads_to (changed_paths changes) place) (not (is_place_of state place)) (is_false _ r.1) in
+    let parts = or_parts (leads_to (changed_paths changes) place) (not (is_place_of state place)) (not-true _ r.1) in
     text_at-same (after state changes) state place place (below-after state changes place parts.0))
     ∙ ap (map (text_at state)) (kept_alike state changes)
 

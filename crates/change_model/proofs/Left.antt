@@ -2,11 +2,12 @@
 use Rattle.std.proofs.Common.{◌≡◌, ℕ, zero, suc, ◌<◌, Bool, true, false, if◌then◌else◌, not, List, [], ◌∷◌, map, Option, None, Some, is_some, ◌⊎◌, inl, inr, refl, sym, ◌∙◌, ap, subst, arith, T}
 use Rattle.std.specs.Prelude.{◌||◌, ◌&&◌, ⊤}
 use Rattle.std.specs.List.{cons_option}
-use Rattle.std.proofs.lemmas.Bool.{cases_lt}
+use Rattle.std.proofs.lemmas.Bool.{cases_lt, or_cases, or_left, or_right}
 use Rattle.std.specs.Option.{option_map}
 use Rattle.std.specs.FinMap.{entries, entries_sorted, find, is_sorted}
 use Rattle.std.specs.Cmp.Lexicographic.{slice_cmp}
 use Rattle.std.proofs.Common.{nat_cmp}
+use Rattle.std.proofs.lemmas.Option.{none-some}
 use Rattle.byte_model.specs.Nibbles.{nibbles, AreNibbles}
 use Rattle.byte_model.specs.Node.{ValueRef}
 use Rattle.trie_model.specs.State.{Row}
@@ -23,18 +24,6 @@ use Rattle.batch_model.proofs.Laying.{find_before}
 use Rattle.change_model.proofs.Laid.{IsLaid, laid-below, same_path, path_of_test, test_of_path, same_tests, found_at-below, found_at-changes_behind, found_at-nibbles, key_of-nibbles}
 
 -- ---- tests
-
-or_cases : (a b : Bool) → (a || b) ≡ true → (a ≡ true) ⊎ (b ≡ true)
-or_cases true b e = inl refl
-or_cases false b e = inr e
-
-or_left : (a b : Bool) → a ≡ true → (a || b) ≡ true
-or_left true b e = refl
-or_left false b e = cc
-
-or_right : (a b : Bool) → b ≡ true → (a || b) ≡ true
-or_right true b e = refl
-or_right false b e = e
 
 pub any_below-at : (f : ℕ → Bool) (n x : ℕ) → x < n → f x ≡ true → any_below f n ≡ true
 unfolding any_below
@@ -108,7 +97,7 @@ prefix_found prefix (row ∷ rows) q v all e =
 
 -- ---- changes of different paths
 
-pub Apart : List Change → Type 0
+unfoldable pub Apart : List Change → Type 0
 Apart [] = ⊤
 Apart (change ∷ changes) = (found_at change.0 changes ≡ None) × Apart changes
 
@@ -159,9 +148,6 @@ sets_found ((path, None) ∷ changes) apart e =
 abbrev IsLeftAs : List Row → Type 0
 IsLeftAs rows = (changes : List Change) (later : List Row) → Apart changes → IsLaid rows changes later → Small later → is_left (shown (tree_of rows)) changes ≡ has_rows later
 
-none_some : (v : List ℕ) → None ≡ Some v → ⊥
-none_some v e = cc
-
 module _ (rows : List Row) (changes : List Change) (later : List Row) (apart : Apart changes) (laid : IsLaid rows changes later) where
   later_set : sets_some changes ≡ true → has_rows later ≡ true
   later_set e =
@@ -173,7 +159,7 @@ module _ (rows : List Row) (changes : List Change) (later : List Row) (apart : A
     where
       go : (o : Option (Option (List ℕ))) → found_at q changes ≡ o → (found_at q changes ≡ Some (Some v)) ⊎ ((found_at q changes ≡ None) × (found_at q rows ≡ Some v))
       go None is = inr (is, ap (λ (o : Option (Option (List ℕ))). decided o (found_at q rows)) (sym is) ∙ sym (laid.at q) ∙ e)
-      go (Some None) is = absurd (none_some v (ap (λ (o : Option (Option (List ℕ))). decided o (found_at q rows)) (sym is) ∙ sym (laid.at q) ∙ e))
+      go (Some None) is = absurd (none-some v (ap (λ (o : Option (Option (List ℕ))). decided o (found_at q rows)) (sym is) ∙ sym (laid.at q) ∙ e))
       go (Some (Some w)) is =
           let same : Some w ≡ Some v = ap (λ (o : Option (Option (List ℕ))). decided o (found_at q rows)) (sym is) ∙ sym (laid.at q) ∙ e in
           inl (is ∙ ap Some same)
@@ -218,7 +204,7 @@ left_none changes later apart laid small =
         let r = found_of_rows later e in
         elim (later_from [] changes later apart laid r.0 r.1 r.2) [
           | inl set ↦ found_sets changes r.0 r.1 set
-          | inr kept ↦ absurd (none_some r.1 kept.1)
+          | inr kept ↦ absurd (none-some r.1 kept.1)
         ]
 
 left_one : (row : Row) → IsLeftAs (row ∷ [])
@@ -242,7 +228,7 @@ left_one row changes later apart laid small =
     to q v none found still =
         elim (same_path row.0 q) as (λ b. same_path row.0 q ≡ b → (if b then Some row.1 else None) ≡ Some v → not (is_deleted row.0 changes) ≡ true) [
           | true ↦ λ t _. ap (λ o. not (is_deletion o)) (ap (λ (p : List ℕ). found_at p changes) (path_of_test row.0 q t) ∙ none)
-          | false ↦ λ t k. absurd (none_some v k)
+          | false ↦ λ t k. absurd (none-some v k)
         ] refl found
 
 some_ref : (o : Option (List ℕ)) → is_some (option_map value_ref o) ≡ is_some o

@@ -66,16 +66,20 @@ only_number f (suc n) x h e none =
 
 -- ---- the lone child
 
-record IsLone (value : Bool) (left : List ℕ) (changes : List Change) (x : ℕ) : Type 0 where
-  no_value : value ≡ false
-  only : left ≡ x ∷ []
-  untouched : changes_behind (x ∷ []) changes ≡ []
+pub record IsLone (value : Bool) (left : List ℕ) (changes : List Change) (x : ℕ) : Type 0 where
+  pub no_value : value ≡ false
+  pub only : left ≡ x ∷ []
+  pub untouched : changes_behind (x ∷ []) changes ≡ []
 
 pub untouched_none : (cs : List Change) → is_untouched cs ≡ true → cs ≡ []
 untouched_none [] e = refl
 untouched_none (c ∷ cs) e = absurd (false≢true e)
 
-lone_from : (value : Bool) (left : List ℕ) (changes : List Change) (x : ℕ) → lone_child value left changes ≡ Some x → IsLone value left changes x
+pub touched_some : (cs : List Change) → cs ≢ [] → is_untouched cs ≡ false
+touched_some [] some = absurd (some refl)
+touched_some (c ∷ cs) some = refl
+
+pub lone_from : (value : Bool) (left : List ℕ) (changes : List Change) (x : ℕ) → lone_child value left changes ≡ Some x → IsLone value left changes x
 lone_from true left changes x e = cc
 lone_from false [] changes x e = cc
 lone_from false (y ∷ []) changes x e = go (is_untouched (changes_behind (y ∷ []) changes)) refl e

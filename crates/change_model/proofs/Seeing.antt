@@ -7,7 +7,7 @@ use mathlib.Core.Path.{fun_ext}
 use Rattle.sha2.specs.Sha256.{sha256}
 use Rattle.byte_model.specs.PackedPath.{longest_path}
 use Rattle.byte_model.specs.Node as node
-use Rattle.byte_model.specs.Node.{Node, ValueRef}
+use Rattle.byte_model.specs.Node.{Node}
 use Rattle.trie_model.specs.Tree.{Tree, nothing, leaf, branch, extension}
 use Rattle.trie_model.specs.Texts.{text, usage, name_of, node_of, value_ref}
 use Rattle.trie_model.specs.Root.{Table}
@@ -62,7 +62,7 @@ digest_of-shown (leaf path value) = refl
 digest_of-shown (branch value kids) = refl
 digest_of-shown (extension path child) = refl
 
-digest_of-child : (table : Table) (depth : ℕ) (name : Option (List ℕ)) → digest_of (seen_child (seen_at table depth false) name) ≡ name
+pub digest_of-child : (table : Table) (depth : ℕ) (name : Option (List ℕ)) → digest_of (seen_child (seen_at table depth false) name) ≡ name
 unfolding seen_child digest_of
 digest_of-child table depth None = refl
 digest_of-child table depth (Some digest) = digest_of-seen_at table depth false digest

@@ -2,7 +2,7 @@
 use Rattle.std.proofs.Common.{◌≡◌, ◌≢◌, ℕ, zero, suc, ◌+◌, ◌<◌, ◌≤◌, ◌==◌, Bool, true, false, cond, if◌then◌else◌, List, [], ◌∷◌, ◌++◌, length, sum_by, Option, None, Some, option_map, ◌⊎◌, inl, inr, refl, sym, ◌∙◌, ap, ap₂, subst, arith, append-nil}
 use Rattle.std.specs.Prelude.{nat_lt}
 use Rattle.std.specs.List.{count_by}
-use Rattle.std.proofs.lemmas.Bool.{false≢true, cases_lt, cases_eq}
+use Rattle.std.proofs.lemmas.Bool.{false≢true, cases_eq}
 use Rattle.std.proofs.lemmas.Bool.Decides.{nat_tests}
 use Rattle.std.proofs.lemmas.List.Sums.{sum_by-append, sum_by-cons}
 use mathlib.Core.Path.{fun_ext}
@@ -12,7 +12,7 @@ use Rattle.byte_model.specs.Node.{ValueRef, cost_of}
 use Rattle.trie_model.specs.State.{Row}
 use Rattle.trie_model.specs.Tree.{Tree, nothing, leaf, branch, extension, below, ends_here, common_prefix, tree_of}
 use Rattle.trie_model.specs.Texts.{text, usage, top_cost, value_ref, places, behind}
-use Rattle.byte_model.proofs.Below.{sum_below-agree, sum_by-joined_below}
+use Rattle.byte_model.proofs.Below.{sum_below-agree, sum_by-joined_below, sum_below-none, sum_below-least, sum_below-single, sum_below-plus}
 use Rattle.trie_model.proofs.Rests.{AllHavePrefix, below-nil, below-append, common_prefix-all}
 use Rattle.trie_model.proofs.Trees.{tree_of-nil, tree_of-one, tree_of-forks, tree_of-shares, by_cases}
 use Rattle.trie_model.proofs.Pairs.{Small, small-below}
@@ -26,34 +26,6 @@ use Rattle.change_model.proofs.Merging.{merged_remains, remaining_merges}
 use Rattle.change_model.proofs.Alone.{alone, touched, touched-root, touched-behind, touched-here, untouched-behind, untouched-here, shared_not_alone}
 
 -- ---- sums
-
-pub sum_below-plus : (f g : ℕ → ℕ) (n : ℕ) → sum_below (λ x. f x + g x) n ≡ sum_below f n + sum_below g n
-unfolding sum_below
-sum_below-plus f g zero = omega arith
-sum_below-plus f g (suc n) = let h = sum_below-plus f g n in omega arith
-
-pub sum_below-none : (f : ℕ → ℕ) (n : ℕ) → ((x : ℕ) → x < n → f x ≡ 0) → sum_below f n ≡ 0
-unfolding sum_below
-sum_below-none f zero none = refl
-sum_below-none f (suc n) none = let h = sum_below-none f n (λ x k. none x (omega arith)) in let last = none n (omega arith) in omega arith
-
--- one of them alone is not 0
-pub sum_below-single : (f : ℕ → ℕ) (n y : ℕ) → y < n → ((x : ℕ) → x < n → x ≢ y → f x ≡ 0) → sum_below f n ≡ f y
-unfolding sum_below
-sum_below-single f zero y h none = absurd (omega arith)
-sum_below-single f (suc n) y h none =
-    elim (cases_lt y n) [
-      | inl l ↦ let k = sum_below-single f n y l (λ x small apart. none x (omega arith) apart) in let last = none n (omega arith) (omega arith) in omega arith
-      | inr r ↦
-          let last : y ≡ n = omega arith in
-          let others = sum_below-none f n (λ x small. none x (omega arith) (omega arith)) in
-          subst (λ z. sum_below f n + f n ≡ f z) (sym last) (omega arith)
-    ]
-
-sum_below-least : (f g : ℕ → ℕ) (n : ℕ) → ((x : ℕ) → x < n → f x ≤ g x) → sum_below f n ≤ sum_below g n
-unfolding sum_below
-sum_below-least f g zero le = omega arith
-sum_below-least f g (suc n) le = let h = sum_below-least f g n (λ x k. le x (omega arith)) in let last = le n (omega arith) in omega arith
 
 sum_by-none : (f : List ℕ → ℕ) (ps : List (List ℕ)) → ((q : List ℕ) → f q ≡ 0) → sum_by f ps ≡ 0
 sum_by-none f [] none = refl

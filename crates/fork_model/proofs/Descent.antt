@@ -1,15 +1,11 @@
 -- Who descends from whom in a tree: by the prevs of blocks, and by their heights.
 use Rattle.std.proofs.Common.{◌≡◌, ◌≢◌, ℕ, ◌<◌, Bool, true, false, ◌||◌, List, Some, ◌⊎◌, inl, inr, ⊎_elim, refl, sym, ◌∙◌, ap, subst, arith}
 use Rattle.std.specs.Str.{bytes_eq}
+use Rattle.std.proofs.lemmas.Bool.{or_cases}
 use Rattle.fork_model.specs.Trees.{Header, BlockTree, IsTree, block_of, descends, is_among, line}
 use Rattle.fork_model.proofs.Ids.{same-itself, same_from, same_or_other}
 use Rattle.fork_model.proofs.Lines.{by_lines, line-head, stands_in, StandsIn}
 use Rattle.fork_model.proofs.Moves.{among-push, or_false, or_true}
-
--- one of two tests, where they are joined
-pub either : (a b : Bool) → (a || b) ≡ true → (a ≡ true) ⊎ (b ≡ true)
-either true b e = inl refl
-either false b e = inr e
 
 module _ (tree : BlockTree) (is : IsTree tree) where
   pub descends-head : (from : List ℕ) → descends tree from tree.head ≡ bytes_eq from tree.head
@@ -48,7 +44,7 @@ module _ (tree : BlockTree) (is : IsTree tree) where
           (λ far. let l = far.2 in inr (far.0, far.1, omega (arith, l, lower)))
           (below up s.over.prev s.over.is))
           (λ same. inl (same_from from q same))
-          (either _ _ (sym (descends-over from q b at other) ∙ e))
+          (or_cases _ _ (sym (descends-over from q b at other) ∙ e))
 
   -- two blocks that descend from each other are one
   pub descends-both : (p q : List ℕ) (b c : Header) → block_of tree.blocks p ≡ Some b → block_of tree.blocks q ≡ Some c → descends tree p q ≡ true → descends tree q p ≡ true → p ≡ q
@@ -77,7 +73,7 @@ module _ (tree : BlockTree) (is : IsTree tree) where
           ⊎_elim
           (λ up. descends-over a q b at other ∙ ap (λ t. t || bytes_eq a q) (below up))
           (λ same. ap (descends tree a) (sym (same_from p q same)) ∙ first)
-          (either _ _ (sym (descends-over p q b at other) ∙ e))
+          (or_cases _ _ (sym (descends-over p q b at other) ∙ e))
 
   -- no block leads to its own prev
   pub not_above : (q : List ℕ) (b : Header) → block_of tree.blocks q ≡ Some b → (q ≢ tree.head) → descends tree q b.prev ≡ false

@@ -1,5 +1,5 @@
 -- The least digest that two texts share, and that there is none exactly where no texts clash.
-use Rattle.std.proofs.Common.{◌≡◌, ◌≢◌, ℕ, Bool, true, false, ◌||◌, if◌then◌else◌, nat_eq, List, [], ◌∷◌, Option, None, Some, MatchOption, Contains, ◌⊎◌, inl, inr, refl, sym, ◌∙◌, ap, subst}
+use Rattle.std.proofs.Common.{◌≡◌, ◌≢◌, ℕ, Bool, true, false, if◌then◌else◌, nat_eq, List, [], ◌∷◌, Option, None, Some, MatchOption, Contains, ◌⊎◌, inl, inr, refl, sym, ◌∙◌, ap, subst}
 use Rattle.std.specs.List.{list_any}
 use Rattle.std.specs.List.Sorted.{IsStrictlySortedBy}
 use Rattle.std.specs.declared.cmp.Ordering.{Ordering}
@@ -8,6 +8,7 @@ use Rattle.std.specs.Ordering.{is_lt, is_gt, ordering_reverse, nat_cmp}
 use Rattle.std.specs.Cmp.{upto}
 use Rattle.std.specs.Cmp.Lexicographic.{slice_cmp, pointwise, bytes_decides, nat_list_cmp_total}
 use Rattle.sha2.specs.Sha256.{sha256}
+use Rattle.std.proofs.lemmas.Bool.{or_cases, or_left, or_right}
 use Rattle.trie_model.specs.Root.{NoClash, zero_digest}
 use Rattle.trie_model.proofs.Members.{IsIn, contains_of_in, in_of_contains, all_at}
 use Rattle.trie_model.proofs.Order.{Before}
@@ -101,18 +102,6 @@ least_taken-is name earlier (t ∷ ts) = join (is_taken name earlier t) refl (le
 
 -- ---- what is taken is what clashes
 
-or_cases : (a b : Bool) → (a || b) ≡ true → (a ≡ true) ⊎ (b ≡ true)
-or_cases true b e = inl refl
-or_cases false b e = inr e
-
-or_second : (a b : Bool) → b ≡ true → (a || b) ≡ true
-or_second true b e = refl
-or_second false b e = e
-
-or_first : (a b : Bool) → a ≡ true → (a || b) ≡ true
-or_first true b e = refl
-or_first false b e = cc
-
 named_among : (name : List ℕ → List ℕ) (digest : List ℕ) (texts : List (List ℕ)) → list_any (λ other. pointwise nat_eq (name other) digest) texts ≡ true → (other : List ℕ) × IsIn texts other × (name other ≡ digest)
 named_among name digest [] e = cc
 named_among name digest (t ∷ ts) e =
@@ -123,8 +112,8 @@ named_among name digest (t ∷ ts) e =
 
 among_named : (name : List ℕ → List ℕ) (digest : List ℕ) (texts : List (List ℕ)) (other : List ℕ) → IsIn texts other → name other ≡ digest → list_any (λ u. pointwise nat_eq (name u) digest) texts ≡ true
 among_named name digest [] other h e = absurd h
-among_named name digest (t ∷ ts) other (inl is) e = or_first (pointwise nat_eq (name t) digest) _ ((bytes_decides (name t) digest).1 (ap name is ∙ e))
-among_named name digest (t ∷ ts) other (inr h) e = or_second (pointwise nat_eq (name t) digest) _ (among_named name digest ts other h e)
+among_named name digest (t ∷ ts) other (inl is) e = or_left (pointwise nat_eq (name t) digest) _ ((bytes_decides (name t) digest).1 (ap name is ∙ e))
+among_named name digest (t ∷ ts) other (inr h) e = or_right (pointwise nat_eq (name t) digest) _ (among_named name digest ts other h e)
 
 -- one of these texts has the digest, and either it is zero or another text here or among the earlier ones has it
 record Clashing (name : List ℕ → List ℕ) (earlier texts : List (List ℕ)) (digest : List ℕ) : Type 0 where
@@ -176,13 +165,13 @@ taken_clashes name earlier (t ∷ ts) digest apart rise (inr later) = widened (t
 zero_taken : (name : List ℕ → List ℕ) (earlier texts : List (List ℕ)) (text : List ℕ) → IsIn texts text → name text ≡ zero_digest → Taken name earlier texts (name text)
 unfolding Taken
 zero_taken name earlier [] text h e = absurd h
-zero_taken name earlier (t ∷ ts) text (inl is) e = inl (or_first (pointwise nat_eq (name t) zero_digest) _ ((bytes_decides (name t) zero_digest).1 (ap name is ∙ e)), ap name is)
+zero_taken name earlier (t ∷ ts) text (inl is) e = inl (or_left (pointwise nat_eq (name t) zero_digest) _ ((bytes_decides (name t) zero_digest).1 (ap name is ∙ e)), ap name is)
 zero_taken name earlier (t ∷ ts) text (inr h) e = inr (zero_taken name (t ∷ earlier) ts text h e)
 
 earlier_taken : (name : List ℕ → List ℕ) (earlier texts : List (List ℕ)) (text other : List ℕ) → IsIn texts text → IsIn earlier other → name other ≡ name text → Taken name earlier texts (name text)
 unfolding Taken
 earlier_taken name earlier [] text other h k e = absurd h
-earlier_taken name earlier (t ∷ ts) text other (inl is) k e = inl (or_second (pointwise nat_eq (name t) zero_digest) _ (among_named name (name t) earlier other k (e ∙ sym (ap name is))), ap name is)
+earlier_taken name earlier (t ∷ ts) text other (inl is) k e = inl (or_right (pointwise nat_eq (name t) zero_digest) _ (among_named name (name t) earlier other k (e ∙ sym (ap name is))), ap name is)
 earlier_taken name earlier (t ∷ ts) text other (inr h) k e = inr (earlier_taken name (t ∷ earlier) ts text other h (inr k) e)
 
 shared_taken : (name : List ℕ → List ℕ) (earlier texts : List (List ℕ)) (one other : List ℕ) → IsIn texts one → IsIn texts other → one ≢ other → name other ≡ name one → Taken name earlier texts (name one)

@@ -1,5 +1,5 @@
 -- What is read as a partial state is what is spelled.
-use Rattle.std.proofs.Common.{◌≡◌, ℕ, zero, suc, ◌+◌, ◌^◌, ◌<◌, ◌==◌, List, [], ◌∷◌, ◌++◌, length, Option, None, Some, MatchOption, Result, Ok, Err, IfOk, refl, sym, ◌∙◌, ap, subst, arith, length-append, append_assoc}
+use Rattle.std.proofs.Common.{◌≡◌, ℕ, zero, suc, ◌+◌, ◌^◌, ◌<◌, ◌==◌, List, [], ◌∷◌, ◌++◌, length, Option, None, Some, MatchOption, Result, Ok, Err, refl, sym, ◌∙◌, ap, subst, arith, length-append, append_assoc}
 use Rattle.std.specs.List.{AllByRecursion}
 use Rattle.std.proofs.lemmas.Bool.{eqb-true}
 use Rattle.std.proofs.lemmas.List.{append-nil, nil_from_length}
@@ -10,6 +10,7 @@ use Rattle.record_model.specs.Fields.{FrameFault, Cursor, Read, start_of, end_of
 use Rattle.record_model.specs.Exact.{ReadsExactly}
 use Rattle.record_model.proofs.Steps.{Gives, gives, and_then, by_test, so_gives, Takes, Takes-then}
 use Rattle.record_model.proofs.Fields.{behind, one_byte, four_bytes, number_taken, number_again, vector_taken, vector_again}
+use Rattle.record_model.proofs.Exact.{exact}
 use Rattle.trie_model.specs.Root.{NoClash}
 use Rattle.partial_model.specs.Texts.{Rise, FallsAt, first_fall, least_clash}
 use Rattle.partial_model.specs.Partial.{AreTexts, IsPartial, spelled_texts, spelled_partial, texts_at, counted_at, listed_at, PartialFault, framed, judged, tested, partial_at, partial_in}
@@ -73,18 +74,8 @@ listed_again ts at rest fit =
     rw (parts, number_again one_byte 0 at (borsh_u32 count ++ (spelled_texts ts ++ rest)) (omega arith), number_again four_bytes count (at + 1) (spelled_texts ts ++ rest) fit.few, texts_again ts (at + 1 + 4) rest fit.each)
     (ap (λ (n : ℕ). Ok (ts, record { at = n; left = rest })) offset)
 
-abbrev offset_of : {X : Type 0} → Read X → ℕ
-offset_of (Ok r) = r.1.at
-offset_of (Err e) = 0
-
 pub listed-exact : ReadsExactly listed_at spelled_partial AreTexts
-listed-exact = record { found = λ c small. found c (listed_at c) refl (listed_taken c small); again = listed_again }
-  where
-    found : (c : Cursor) (read : Read (List (List ℕ))) → listed_at c ≡ read → Gives read (TakesListed c) → IfOk read (λ r. AreTexts r.0 × (c.left ≡ spelled_partial r.0 ++ r.1.left) × (r.1.at ≡ c.at + length (spelled_partial r.0)))
-    found c (Err e) is h = tt
-    found c (Ok r) is h =
-        let stands : listed_at c ≡ listed_at (record { at = c.at; left = spelled_partial r.0 ++ r.1.left }) = ap (λ (left : List ℕ). listed_at (record { at = c.at; left = left })) h.given.took.parts in
-        (h.given.fit, h.given.took.parts, ap offset_of (sym is ∙ stands ∙ listed_again r.0 c.at r.1.left h.given.fit))
+listed-exact = exact spelled_partial AreTexts (λ c small. so_gives (listed_taken c small) (λ r h. (h.fit, h.took))) listed_again
 
 pub listed-prefix : (some others : List (List ℕ)) (more rest : List ℕ) → AreTexts some → AreTexts others → spelled_partial some ++ more ≡ spelled_partial others ++ rest → (some ≡ others) × (more ≡ rest)
 listed-prefix some others more rest h k e =
@@ -146,7 +137,7 @@ pub partial_at-only : (texts : List (List ℕ)) (at : ℕ) (rest : List ℕ) →
 unfolding partial_at
 partial_at-only texts at rest h apart = rw (listed_again texts at rest h.texts_fit, tested_only texts h.rise apart) refl
 
-whole_gives : {X : Type 0} (x : X) (c : Cursor) → Gives (end_of x c) (λ y. (y ≡ x) × (c.left ≡ []))
+pub whole_gives : {X : Type 0} (x : X) (c : Cursor) → Gives (end_of x c) (λ y. (y ≡ x) × (c.left ≡ []))
 unfolding end_of
 whole_gives x c = by_test (length c.left == 0) (λ e. gives x (refl, nil_from_length c.left (eqb-true _ _ e))) (λ e. record { given = tt })
 

@@ -4,7 +4,7 @@ use Rattle.std.specs.Prelude.{nat_lt}
 use Rattle.std.specs.List.{AllByRecursion}
 use Rattle.std.specs.FinMap.{entries, from_sorted}
 use Rattle.std.proofs.lemmas.Bool.{eqb-true, ltb-false, le-ltb}
-use Rattle.std.proofs.lemmas.List.{append-nil, nil_from_length}
+use Rattle.std.proofs.lemmas.List.{append-nil}
 use Rattle.byte_model.specs.Nibbles.{AreBytes, longest_key}
 use Rattle.byte_model.specs.Borsh.{borsh_u8, borsh_u32, borsh_bytes, borsh_option}
 use Rattle.byte_model.specs.Node.{digest_width, longest_value}
@@ -13,11 +13,11 @@ use Rattle.record_model.proofs.Steps.{Gives, gives, and_then, unless, by_test, s
 use Rattle.record_model.proofs.Fields.{one_byte, four_bytes, bytes_taken, bytes_again, number_taken, number_again, vector_taken, vector_again}
 use Rattle.trie_model.specs.Root.{NoClash}
 use Rattle.batch_model.specs.Changes.{Changes, Change, IsChange, most_changes}
-use Rattle.partial_model.specs.Partial.{IsPartial, PartialFault, spelled_texts, spelled_partial, partial_at}
+use Rattle.partial_model.specs.Partial.{PartialFault, spelled_texts, spelled_partial}
 use Rattle.partial_model.specs.Partial as partial
 use Rattle.partial_model.specs.Recording.{head, Recording, IsRecording, IsKey, ReadHead, most_reads, spelled_change, spelled_changes, spelled_recording, in_frame, in_state, count_within, vector_within, keys_at, reads_at, value_at, becomes_at, follows, change_at, changes_from, changes_at, recording_in}
 use Rattle.partial_model.proofs.Changes.{FollowOn, following-entries, from_sorted-entries, entries-following}
-use Rattle.partial_model.proofs.Reading.{partial_at-found, partial_at-only}
+use Rattle.partial_model.proofs.Reading.{partial_at-found, partial_at-only, whole_gives}
 
 -- ---- what was read was spelled
 
@@ -139,10 +139,6 @@ changes_taken c small = and_then (count_taken most_changes c small) (λ count h.
   each = k.each;
   rising = k.rising;
 }))
-
-whole_gives : {X : Type 0} (x : X) (c : Cursor) → Gives (end_of x c) (λ y. (y ≡ x) × (c.left ≡ []))
-unfolding end_of
-whole_gives x c = by_test (length c.left == 0) (λ e. gives x (refl, nil_from_length c.left (eqb-true _ _ e))) (λ e. record { given = tt })
 
 abbrev IsRead : List ℕ → Recording → Type 0
 IsRead bytes r = IsRecording r × NoClash r.state × (bytes ≡ spelled_recording r)

@@ -13,11 +13,11 @@ offset_of (Ok r) = r.1.at
 offset_of (Err e) = 0
 
 -- what fits was taken from the prefix
-abbrev Took : {X : Type 0} → (X → List ℕ) → (X → Type 0) → Cursor → X × Cursor → Type 0
+abbrev pub Took : {X : Type 0} → (X → List ℕ) → (X → Type 0) → Cursor → X × Cursor → Type 0
 Took spell Fits c r = Fits r.0 × Takes c (spell r.0) r.1
 
 -- the offset is told by what is read again
-exact : {X : Type 0} {read : Cursor → Read X} (spell : X → List ℕ) (Fits : X → Type 0) → ((c : Cursor) → AreBytes c.left → Gives (read c) (Took spell Fits c)) → ((x : X) (at : ℕ) (rest : List ℕ) → Fits x → read (record { at = at; left = spell x ++ rest }) ≡ Ok (x, record { at = at + length (spell x); left = rest })) → ReadsExactly read spell Fits
+pub exact : {X : Type 0} {read : Cursor → Read X} (spell : X → List ℕ) (Fits : X → Type 0) → ((c : Cursor) → AreBytes c.left → Gives (read c) (Took spell Fits c)) → ((x : X) (at : ℕ) (rest : List ℕ) → Fits x → read (record { at = at; left = spell x ++ rest }) ≡ Ok (x, record { at = at + length (spell x); left = rest })) → ReadsExactly read spell Fits
 exact {X = X} {read = read} spell Fits taken again = record { found = λ c small. found c (read c) refl (taken c small); again = again }
   where
     found : (c : Cursor) (r : Read X) → read c ≡ r → Gives r (Took spell Fits c) → IfOk r (λ r. Fits r.0 × (c.left ≡ spell r.0 ++ r.1.left) × (r.1.at ≡ c.at + length (spell r.0)))

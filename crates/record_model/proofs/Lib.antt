@@ -6,4 +6,5 @@ pub mod Exact
 pub mod Layouts
 pub mod Kids
 pub mod Nodes
+pub mod Fitting
 pub mod Worked

@@ -6,10 +6,10 @@ use Rattle.partial_model.specs.Partial.{IsPartial, PartialFault, framed, listed_
 use Rattle.partial_model.proofs.Reading.{partial_in-spelled, passed_are}
 use Rattle.base_core.specs.declared.borsh_error.BorshError.{BorshError}
 use Rattle.base_core.specs.Reading.{fault_of}
+use Rattle.base_core.proofs.PassedOn.{passed_on}
 use Rattle.text_store.specs.declared.errors.PartialError.{PartialError}
 use Rattle.text_store.specs.declared.errors.PartialError.TheVariants.{Frame, Order, Clash, NoMemory}
 use Rattle.text_store.specs.PartialStates.{PartialState, IsRefused, AnswersWhole, AnswersFirst, AnswersTexts, unread}
-use Rattle.text_store.proofs.Listing.{passed_on}
 
 -- a refusal of one reading is one of another that ends as it does
 refused_alike : {X Y : Type 0} (error : PartialError) (one : Result X PartialFault) (other : Result Y PartialFault) → ((fault : PartialFault) → one ≡ Err fault → other ≡ Err fault) → IsRefused error one → IsRefused error other

@@ -8,6 +8,7 @@ use Rattle.std.specs.Int.{w8, w32}
 use Rattle.partial_model.specs.Partial.{texts_at, counted_at, listed_at, framed}
 use Rattle.base_core.specs.declared.borsh_error.BorshError.{BorshError}
 use Rattle.base_core.specs.Reading.{fault_of}
+use Rattle.base_core.proofs.PassedOn.{passed_on}
 use Rattle.text_store.specs.declared.errors.PartialError.{PartialError}
 use Rattle.text_store.specs.declared.errors.PartialError.TheVariants.{Frame, Order, Clash, NoMemory}
 use Rattle.text_store.specs.PartialStates.{Lists}
@@ -65,11 +66,6 @@ unfolding texts_at
 IsListing-fault start now count texts n fault more h e =
     let left : count - n ≡ suc (count - (n + 1)) = omega arith in
     h.told ∙ ap (λ m. joined (bytes_of texts) (texts_at m now)) left ∙ rw e refl
-
--- what is shown of an error that a `?` passed on
-pub passed_on : {X E : Type 0} (P : Result X E → Type 0) (result : Result X E) (error : E) → IsErrAnd result (λ given. given ≡ error) → P (Err error) → P result
-passed_on P (Ok x) error is shown = absurd is
-passed_on P (Err given) error is shown = subst (λ e. P (Err e)) (sym is) shown
 
 -- a fault of the layout that a `?` passed on
 pub refused_frame : {X : Type 0} (view : X → List (List ℕ)) (result : Result X PartialError) (error : BorshError) (old new : Cursor) (read : Cursor → Read (List (List ℕ))) → IsErrAnd result (λ given. given ≡ Frame error) → read old ≡ Err (fault_of error) → Lists view result old new read

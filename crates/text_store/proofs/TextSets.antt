@@ -1,10 +1,10 @@
 -- The keys of a tree against the set of texts that they are seen as.
-use Rattle.std.proofs.Common.{◌≡◌, ℕ, ◌+◌, ◌≤◌, ◌<◌, ◌^◌, ◌||◌, Result, Ok, Err, OnOk, OnErr, Bool, true, false, cond, List, [], ◌∷◌, length, Option, Some, Ordering, Less, Equal, Greater, Vec, inl, inr, refl, sym, ap, subst, ◌∙◌, arith}
+use Rattle.std.proofs.Common.{◌≡◌, ℕ, ◌+◌, ◌≤◌, ◌<◌, ◌^◌, ◌||◌, Result, Ok, Err, OnOk, OnErr, Bool, true, false, cond, List, [], ◌∷◌, length, Option, Some, Less, Equal, Greater, Vec, inl, inr, refl, sym, ap, subst, ◌∙◌, arith}
 use Rattle.std.proofs.lemmas.List.{length-map}
-use Rattle.std.specs.Ordering.{nat_cmp, match_ordering, is_eq}
+use Rattle.std.specs.Ordering.{match_ordering, is_eq}
 use Rattle.std.specs.List.{AllByRecursion, list_any}
 use Rattle.std.specs.List.Sorted.{IsStrictlySortedBy}
-use Rattle.std.specs.Cmp.Lexicographic.{slice_cmp, nat_list_cmp_total}
+use Rattle.std.specs.Cmp.Lexicographic.{nat_list_cmp_total}
 use Rattle.std.specs.BTreeSet.{insert_key}
 use Rattle.std.specs.FinMap.{get, same_map, get-insert}
 use Rattle.std.specs.declared.alloc.Global.{Global}
@@ -14,11 +14,8 @@ use Rattle.trie_model.proofs.Members.{IsIn}
 use Rattle.partial_model.specs.Texts.{Rise, SetOfTexts, with_text, set_of, texts_in}
 use Rattle.partial_model.specs.Partial.{IsPartial}
 use Rattle.partial_model.proofs.Sets.{texts_in-set_of}
-use Rattle.base_core.proofs.ByteMaps.{order, is_same}
+use Rattle.base_core.proofs.ByteMaps.{order, is_same, by_items}
 use Rattle.text_store.specs.TextSets.{texts_of_keys, set_of_keys}
-
-abbrev by_items : Vec ℕ Global → Vec ℕ Global → Ordering
-by_items x y = slice_cmp nat_cmp x.items y.items
 
 -- ---- texts put into a set
 

@@ -1,7 +1,7 @@
 -- Equal texts mean equal rows, where no two of the texts at hand share a digest.
 use Rattle.std.proofs.Common.{◌≡◌, ◌≢◌, ℕ, ◌<◌, List, [], ◌∷◌, ◌++◌, map, Option, None, Some, IfSome, option_map, ◌⊎◌, ◌↔◌, refl, sym, ◌∙◌, ap, ap₂, subst, inl, inr}
 use Rattle.std.specs.List.{AllByRecursion}
-use Rattle.std.proofs.lemmas.Option.{same_Some}
+use Rattle.std.proofs.lemmas.Option.{same_Some, none-some}
 use Rattle.sha2.specs.Sha256.{sha256}
 use Rattle.byte_model.specs.Node as node
 use Rattle.byte_model.specs.Node.{Node, ValueRef, spelled, IsShaped}
@@ -86,9 +86,6 @@ kind_of (row ∷ next ∷ rows) = go (common_prefix row (next ∷ rows)) refl
 fits : (rows : List Row) → Sound rows → (tree : Tree) → tree_of rows ≡ tree → IfSome (node_of tree) (λ n. IsShaped n × FitsRecord n)
 fits rows s tree e = subst (λ t. IfSome (node_of t) (λ n. IsShaped n × FitsRecord n)) e (sound_nodes rows s.rising s.small s.short)
 
-none_some : (a : List ℕ) → None ≡ Some a → ⊥
-none_some a e = cc
-
 module _ (texts : List (List ℕ)) (apart : (a b : List ℕ) → IsIn texts a → IsIn texts b → sha256 a ≡ sha256 b → a ≡ b) where
   -- the texts and values of some rows are among these
   pub record Known (rows : List Row) : Type 0 where
@@ -151,8 +148,8 @@ module _ (texts : List (List ℕ)) (apart : (a b : List ℕ) → IsIn texts a �
     where
       go : (kids ≡ []) ⊎ (kids ≢ []) → (others ≡ []) ⊎ (others ≢ []) → kids ≡ others
       go (inl p) (inl q) = p ∙ sym q
-      go (inl p) (inr q) = absurd (none_some _ (sym (ap (λ rows. name_of (tree_of rows) (text (tree_of kids))) p ∙ name_of-none (text (tree_of kids))) ∙ e ∙ name_of-rows others q (text (tree_of others))))
-      go (inr p) (inl q) = absurd (none_some _ (sym (ap (λ rows. name_of (tree_of rows) (text (tree_of others))) q ∙ name_of-none (text (tree_of others))) ∙ sym e ∙ name_of-rows kids p (text (tree_of kids))))
+      go (inl p) (inr q) = absurd (none-some _ (sym (ap (λ rows. name_of (tree_of rows) (text (tree_of kids))) p ∙ name_of-none (text (tree_of kids))) ∙ e ∙ name_of-rows others q (text (tree_of others))))
+      go (inr p) (inl q) = absurd (none-some _ (sym (ap (λ rows. name_of (tree_of rows) (text (tree_of others))) q ∙ name_of-none (text (tree_of others))) ∙ sym e ∙ name_of-rows kids p (text (tree_of kids))))
       go (inr p) (inr q) =
           let digests = same_Some _ _ (sym (name_of-rows kids p (text (tree_of kids))) ∙ e ∙ name_of-rows others q (text (tree_of others))) in
           told others s s' k k' p q (apart _ _ (k.nodes _ (text_in kids p)) (k'.nodes _ (text_in others q)) digests)

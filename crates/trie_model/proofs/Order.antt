@@ -1,11 +1,12 @@
 -- The order of paths: places rise, and so do the rows of a state.
-use Rattle.std.proofs.Common.{◌≡◌, ℕ, zero, suc, ◌<◌, List, [], ◌∷◌, ◌++◌, None, Some, option_map, refl, sym, ◌∙◌, ap, ap₂, subst, inl, inr, Greater, Ordering, Less, Equal, nat_cmp, T, Bool, true, false, ◌&&◌}
+use Rattle.std.proofs.Common.{◌≡◌, ℕ, zero, suc, ◌<◌, List, [], ◌∷◌, ◌++◌, None, Some, option_map, refl, sym, ◌∙◌, ap, ap₂, subst, inl, inr, Greater, Ordering, Less, Equal, Equal, nat_cmp, T, Bool, true, false, ◌&&◌}
 use Rattle.std.specs.List.{AllByRecursion, cons_option}
 use Rattle.std.specs.List.Sorted.{IsStrictlySortedBy}
 use Rattle.std.specs.Ordering.{ordering_then, is_lt}
-use Rattle.std.specs.Cmp.Lexicographic.{slice_cmp}
+use Rattle.std.specs.Cmp.Lexicographic.{slice_cmp, nat_list_cmp_total}
 use Rattle.std.specs.FinMap.{entries, entries_sorted, is_sorted}
 use Rattle.std.specs.FinMap.Entries.{below_all}
+use Rattle.std.specs.Cmp.{tied_itself}
 use Rattle.byte_model.specs.Below.{joined_below}
 use Rattle.byte_model.specs.Nibbles.{nibbles}
 use Rattle.byte_model.proofs.Digits.{nat_cmp-less, nat_cmp-itself, slice_cmp-nibbles}
@@ -32,6 +33,15 @@ slice_cmp-prefix (x ∷ prefix) p q = ap (λ o. ordering_then o (slice_cmp nat_c
 
 pub before_by_first : (x y : ℕ) (p q : List ℕ) → x < y → Before (x ∷ p) (y ∷ q)
 before_by_first x y p q h = ap (λ o. ordering_then o (slice_cmp nat_cmp p q)) (nat_cmp-less x y h)
+
+pub not_before_itself : (p : List ℕ) → Before p p → ⊥
+not_before_itself p h = different (sym h ∙ tied_itself nat_list_cmp_total p)
+  where
+    different : Less ≡ Equal → ⊥
+    different e = cc
+
+pub not_before_back : (p q : List ℕ) → Before p q → Before q p → ⊥
+not_before_back p q h k = not_before_itself p (nat_list_cmp_total.trans p q p h k)
 
 pub rising-append : (ps qs : List (List ℕ)) → Rising ps → Rising qs → ((p q : List ℕ) → IsIn ps p → IsIn qs q → Before p q) → Rising (ps ++ qs)
 unfolding IsStrictlySortedBy

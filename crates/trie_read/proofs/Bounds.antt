@@ -1,8 +1,7 @@
 -- What is left of a bound behind a prefix.
-use Rattle.std.proofs.Common.{◌≡◌, ◌≢◌, ℕ, suc, ◌<◌, ◌≤◌, Bool, true, false, List, [], ◌∷◌, ◌++◌, length, take, drop, get_or, None, Some, refl, sym, ap, ap₂, ◌∙◌, arith}
-use Rattle.std.specs.Prelude.{◌==◌}
+use Rattle.std.proofs.Common.{◌≡◌, ◌≢◌, ℕ, suc, ◌<◌, ◌≤◌, List, [], ◌∷◌, ◌++◌, length, take, drop, get_or, None, Some, refl, sym, ap, ap₂, ◌∙◌, arith}
 use Rattle.std.proofs.Math.Seq.{drop-cons}
-use Rattle.std.proofs.lemmas.Bool.{lt-ltb, le-ltb, eq-eqb, eqb-true}
+use Rattle.std.proofs.lemmas.Bool.{lt-ltb, le-ltb, eq-eqb, ne_eqb}
 use Rattle.std.proofs.lemmas.List.{take_all, take-append-drop}
 use Rattle.trie_model.proofs.Rests.{same_nibble}
 use Rattle.visit_model.specs.Steps.{bound_behind}
@@ -24,20 +23,13 @@ unfolding bound_behind
 apart [] x y p q = refl
 apart (z ∷ shared) x y p q = rw (same_nibble z) (apart shared x y p q)
 
-differ : (x y : ℕ) → x ≢ y → (x == y) ≡ false
-differ x y h = go (x == y) refl
-  where
-    go : (b : Bool) → (x == y) ≡ b → b ≡ false
-    go true e = absurd (h (eqb-true x y e))
-    go false e = refl
-
 below_first : (x y : ℕ) (p q : List ℕ) → x < y → bound_behind (x ∷ p) (y ∷ q) ≡ None
 unfolding bound_behind
-below_first x y p q h = rw (differ x y (omega arith), lt-ltb x y h) refl
+below_first x y p q h = rw (ne_eqb x y (omega arith), lt-ltb x y h) refl
 
 above_first : (x y : ℕ) (p q : List ℕ) → y < x → bound_behind (x ∷ p) (y ∷ q) ≡ Some []
 unfolding bound_behind
-above_first x y p q h = rw (differ x y (omega arith), le-ltb x y (omega arith)) refl
+above_first x y p q h = rw (ne_eqb x y (omega arith), le-ltb x y (omega arith)) refl
 
 -- ---- by the length of what is shared
 

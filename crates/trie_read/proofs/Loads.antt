@@ -1,6 +1,5 @@
 -- What is left of a store where a reading broke off.
-use Rattle.std.proofs.Common.{◌≡◌, ℕ, ◌≤◌, List, length, Result, Ok, Err, refl, sym, subst, arith}
-use Rattle.std.specs.Prelude.{IsErrAnd}
+use Rattle.std.proofs.Common.{◌≡◌, ℕ, ◌≤◌, List, length, refl, arith}
 use Rattle.base_core.specs.Faults.{failed, short_of_memory}
 use Rattle.text_store.specs.Store.{Store}
 use Rattle.text_store.specs.Leaves.{Leaves}
@@ -23,8 +22,3 @@ pub ended-as_listed : (error : ReadError) → by_error error ≡ by_list_error (
 ended-as_listed (Missing digest) = refl
 ended-as_listed (Bad digest) = refl
 ended-as_listed Fault = refl
-
--- what is shown of an error that a `?` passed on
-pub passed_on : {X E : Type 0} (P : Result X E → Type 0) (result : Result X E) (error : E) → IsErrAnd result (λ given. given ≡ error) → P (Err error) → P result
-passed_on P (Ok x) error is shown = absurd is
-passed_on P (Err given) error is shown = subst (λ e. P (Err e)) (sym is) shown

@@ -7,8 +7,9 @@ use Rattle.byte_model.specs.PackedPath.{longest_path}
 use Rattle.trie_model.specs.Root.{Table, zero_digest}
 use Rattle.base_core.specs.declared.hash.Digest.{Digest}
 use Rattle.visit_model.specs.Seen.{Seen, nothing, seen, seen_at, seen_node}
-use Rattle.visit_model.specs.Steps.{Step, no_text, no_node, value, value_steps, lookup_steps}
+use Rattle.visit_model.specs.Steps.{Step, no_text, no_node, value, lookup_steps}
 use Rattle.visit_model.specs.Steps as step
+use Rattle.visit_model.proofs.SeenTexts.{seen-missing, seen-bad}
 use Rattle.node_codec.specs.declared.value_ref.ValueRef as codec
 use Rattle.node_codec.specs.Meanings.{value_of}
 use Rattle.trie_read.specs.declared.errors.ReadError.{ReadError}
@@ -23,7 +24,7 @@ use Rattle.text_store.specs.Leaves.{Leaves}
 use Rattle.trie_read.specs.Endings.{by_error}
 use Rattle.text_store.proofs.Leaves.{Leaves-none, Leaves-then}
 use Rattle.trie_read.proofs.Loads.{Onward}
-use Rattle.trie_read.proofs.HeldNodes.{sees-node, seen-missing, seen-bad}
+use Rattle.trie_read.proofs.HeldNodes.{sees-node}
 use Rattle.trie_read.proofs.FirstSteps.{seen_at-something, lookup-some}
 use Rattle.trie_read.proofs.Leads.{Leading, GoesOn, leading}
 

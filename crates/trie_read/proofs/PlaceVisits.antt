@@ -10,6 +10,7 @@ use Rattle.byte_model.specs.Node.{Node}
 use Rattle.visit_model.specs.Seen.{Seen, seen_at, seen_node}
 use Rattle.visit_model.specs.Steps.{Step, listing_steps}
 use Rattle.visit_model.specs.Bounds.{at_most_one}
+use Rattle.visit_model.proofs.SeenTexts.{seen-missing, seen-bad}
 use Rattle.node_codec.specs.declared.value_ref.ValueRef as codec
 use Rattle.trie_read.specs.declared.walk.Place.{Place}
 use Rattle.trie_read.specs.declared.walk.Walk.{Walk}
@@ -19,7 +20,7 @@ use Rattle.trie_read.specs.declared.errors.ReadError.TheVariants.{Missing, Bad, 
 use Rattle.trie_read.specs.Loads.{IsStopped}
 use Rattle.trie_read.specs.Endings.{as_listed}
 use Rattle.trie_read.specs.Listings.{Passed, AnswersPlace}
-use Rattle.trie_read.proofs.HeldNodes.{SeesNode, seen-missing, seen-bad}
+use Rattle.trie_read.proofs.HeldNodes.{SeesNode}
 use Rattle.trie_read.proofs.Stacks.{steps_of-same, Stacked-widen}
 
 small-take : (n : ℕ) (path : List ℕ) → AreNibbles path → AreNibbles (take n path)

@@ -5,6 +5,7 @@ use Rattle.std.specs.Cmp.Lexicographic.{pointwise}
 use Rattle.std.specs.FinMap.{get}
 use Rattle.byte_model.specs.Node as node
 use Rattle.byte_model.specs.Node.{Node}
+use Rattle.record_model.specs.Fits.{fitting_node}
 use Rattle.trie_model.specs.Root.{Table, Holds, root, total, zero_digest, subtree_at}
 use Rattle.trie_model.specs.State.{State, IsState}
 use Rattle.trie_model.specs.Tree as tree
@@ -16,8 +17,8 @@ use Rattle.visit_model.specs.Steps.{Step, top_steps}
 use Rattle.visit_model.specs.Visits as visits
 use Rattle.visit_model.specs.Visits.{Visits, no_visits, refused, node_first, visits_of, top_visits}
 use Rattle.visit_model.proofs.ShownStates.{state_seen}
+use Rattle.visit_model.proofs.SeenTexts.{seen-missing, seen-bad}
 use Rattle.base_core.specs.declared.hash.Digest.{Digest}
-use Rattle.trie_shape.specs.Fitting.{fitting_node}
 use Rattle.trie_read.specs.declared.errors.ReadError.{ReadError}
 use Rattle.trie_read.specs.declared.errors.ReadError.TheVariants.{Missing, Bad, Fault}
 use Rattle.base_core.specs.Faults as ended
@@ -28,7 +29,7 @@ use Rattle.trie_read.specs.Loads.{IsStopped}
 use Rattle.trie_read.specs.Usages.{AnswersUsage, AnswersTotal}
 use Rattle.text_store.proofs.Leaves.{Leaves-none}
 use Rattle.trie_read.proofs.Loads.{Leaves-failed}
-use Rattle.trie_read.proofs.HeldNodes.{seen-missing, seen-bad, sees-node}
+use Rattle.trie_read.proofs.HeldNodes.{sees-node}
 use Rattle.trie_read.proofs.States.{none_some}
 use Rattle.trie_read.proofs.FirstSteps.{seen_at-something, top-some}
 use Rattle.trie_read.proofs.LookupVisits.{visits-some}

@@ -2,12 +2,12 @@
 use Rattle.std.specs.Prelude.{◌≡◌, ◌≢◌, IsSomeAnd, ℕ, Bool, List, length, None, Some, Result, Ok, Err, ⊤}
 use Rattle.std.specs.Borrow.{Bor}
 use Rattle.std.specs.FinMap.{get}
+use Rattle.record_model.specs.Fits.{fitting_node}
 use Rattle.trie_model.specs.Root.{Table}
 use Rattle.base_core.specs.declared.hash.Digest.{Digest}
 use Rattle.node_codec.specs.declared.value_ref.ValueRef.{ValueRef}
 use Rattle.node_codec.specs.declared.node_view.NodeView.{NodeView}
 use Rattle.node_codec.specs.Views.{node_viewed}
-use Rattle.trie_shape.specs.Fitting.{fitting_node}
 use Rattle.trie_read.specs.declared.errors.ReadError.{ReadError}
 use Rattle.trie_read.specs.declared.errors.ReadError.TheVariants.{Missing, Bad, Fault}
 

@@ -6,6 +6,7 @@ use Rattle.std.specs.FinMap.{get}
 use Rattle.std.specs.Cmp.Lexicographic.{pointwise}
 use Rattle.byte_model.specs.Node as node
 use Rattle.byte_model.specs.Node.{Node, ValueRef}
+use Rattle.record_model.specs.Fits.{fitting_node}
 use Rattle.trie_model.specs.Root.{Table}
 use Rattle.trie_model.specs.Tree.{rest_behind}
 use Rattle.visit_model.specs.Steps.{Step, no_text, no_node, value}
@@ -16,7 +17,6 @@ use Rattle.visit_model.specs.Bounds.{at_most_one}
 use Rattle.base_core.specs.declared.hash.Digest.{Digest}
 use Rattle.node_codec.specs.declared.value_ref.ValueRef as codec
 use Rattle.node_codec.specs.Meanings.{value_of}
-use Rattle.trie_shape.specs.Fitting.{fitting_node}
 use Rattle.trie_read.specs.Loads.{IsStopped}
 use Rattle.text_store.specs.Store.{Store}
 use Rattle.text_store.specs.Leaves.{Leaves}

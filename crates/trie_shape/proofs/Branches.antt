@@ -1,5 +1,5 @@
 -- The children of a branch, gathered nibble by nibble.
-use Rattle.std.proofs.Common.{◌≡◌, ◌≢◌, ℕ, zero, suc, ◌+◌, ◌-◌, ◌^◌, ◌<◌, ◌≤◌, List, [], ◌∷◌, length, take, drop, set, Option, None, option_map, inl, inr, refl, sym, ◌∙◌, ap, ap₂, subst, arith}
+use Rattle.std.proofs.Common.{◌≡◌, ◌≢◌, ℕ, zero, suc, ◌+◌, ◌^◌, ◌<◌, ◌≤◌, List, [], ◌∷◌, length, take, drop, set, Option, None, option_map, inl, inr, refl, sym, ◌∙◌, ap, ap₂, subst, arith}
 use Rattle.std.specs.List.{AllByRecursion}
 use Rattle.std.proofs.lemmas.Bool.{cases_lt}
 use Rattle.std.proofs.lemmas.List.{length-map}
@@ -9,7 +9,8 @@ use Rattle.base_core.specs.declared.hash.Digest.{Digest}
 use Rattle.byte_model.specs.Below.{sum_below}
 use Rattle.byte_model.specs.Nibbles.{nibbles}
 use Rattle.byte_model.specs.Node.{ValueRef as ValueOfRecord}
-use Rattle.byte_model.proofs.Below.{sum_below-more}
+use Rattle.byte_model.proofs.Below.{sum_below-more, sum_below-part}
+use Rattle.byte_model.proofs.Lists.{AllByRecursion-take, AllByRecursion-drop}
 use Rattle.trie_model.specs.State.{Row}
 use Rattle.trie_model.specs.Tree.{below, ends_here, tree_of}
 use Rattle.trie_model.specs.Texts.{text, usage, value_ref, name_of}
@@ -46,7 +47,7 @@ tails-rows_at : (depth : ℕ) (rows : List Lent) → tails (rows_at depth rows) 
 tails-rows_at depth [] = refl
 tails-rows_at depth (row ∷ rows) = ap₂ (λ (p : List ℕ) (rs : List Row). (p, row.1.now) ∷ rs) (drop_more (nibbles row.0.now) depth) (tails-rows_at depth rows)
 
-longer : (p : List ℕ) (n x : ℕ) → StartsFrom x (drop n p) → n < length p
+pub longer : (p : List ℕ) (n x : ℕ) → StartsFrom x (drop n p) → n < length p
 longer [] zero x h = absurd h
 longer [] (suc n) x h = absurd h
 longer (y ∷ p) zero x h = omega arith
@@ -57,16 +58,6 @@ deeper depth x [] h each = tt
 deeper depth x (row ∷ rows) h each =
     let long = longer (nibbles row.0.now) depth x h.0 in
     (record { deep = omega arith; short = each.0.short; nibbles = each.0.nibbles; value = each.0.value }, deeper depth x rows h.1 each.1)
-
-AllByRecursion-take : {X : Type 0} (P : X → Type 0) (n : ℕ) (xs : List X) → AllByRecursion P xs → AllByRecursion P (take n xs)
-AllByRecursion-take P zero xs h = tt
-AllByRecursion-take P (suc n) [] h = tt
-AllByRecursion-take P (suc n) (x ∷ xs) h = (h.0, AllByRecursion-take P n xs h.1)
-
-AllByRecursion-drop : {X : Type 0} (P : X → Type 0) (n : ℕ) (xs : List X) → AllByRecursion P xs → AllByRecursion P (drop n xs)
-AllByRecursion-drop P zero xs h = h
-AllByRecursion-drop P (suc n) [] h = tt
-AllByRecursion-drop P (suc n) (x ∷ xs) h = AllByRecursion-drop P n xs h.1
 
 -- ---- one nibble's run
 
@@ -119,17 +110,6 @@ pub record IsGathered (depth : ℕ) (whole rest : List Lent) (nibble : ℕ) (kid
 sum_below-none : (f : ℕ → ℕ) → sum_below f 0 ≡ 0
 unfolding sum_below
 sum_below-none f = refl
-
-sum_below-longer : (f : ℕ → ℕ) (m n : ℕ) → sum_below f m ≤ sum_below f (m + n)
-sum_below-longer f m zero = let none : m + 0 ≡ m = omega arith in subst (λ k. sum_below f m ≤ sum_below f k) (sym none) (omega arith)
-sum_below-longer f m (suc n) =
-    let further = sum_below-longer f m n in
-    let one = sum_below-more f (m + n) in
-    let end : m + n + 1 ≡ m + suc n = omega arith in
-    subst (λ k. sum_below f m ≤ sum_below f k) end (omega arith)
-
-sum_below-part : (f : ℕ → ℕ) (m n : ℕ) → m ≤ n → sum_below f m ≤ sum_below f n
-sum_below-part f m n h = let split : m + (n - m) ≡ n = omega arith in subst (λ k. sum_below f m ≤ sum_below f k) split (sum_below-longer f m (n - m))
 
 pub gathered-none : (depth : ℕ) (whole rest : List Lent) (kids : List (Option Digest)) → IsLeft 0 depth whole rest → length kids ≡ 16 → IsGathered depth whole rest 0 kids 0
 gathered-none depth whole rest kids left sixteen = record { left = left; sixteen = sixteen; named = λ y h. absurd (omega arith); used = sym (sum_below-none _) }

@@ -29,7 +29,7 @@ each_at P depth (row ∷ rows) zero d h all = all.0
 each_at P depth (row ∷ rows) (suc j) d h all = each_at P depth rows j d (omega arith) all.1
 
 -- a path below one that goes on with the lowest nibble goes on with it too
-first_of : (x : ℕ) (p q : List ℕ) → StartsFrom x p → Before p q → goes_on x q ≡ true → goes_on x p ≡ true
+pub first_of : (x : ℕ) (p q : List ℕ) → StartsFrom x p → Before p q → goes_on x q ≡ true → goes_on x p ≡ true
 first_of x [] q from before goes = absurd from
 first_of x (y ∷ p) [] from before goes = cc
 first_of x (y ∷ p) (z ∷ q) from before goes =
@@ -66,7 +66,7 @@ drop_all [] (suc n) h = refl
 drop_all (x ∷ p) zero h = absurd (omega arith)
 drop_all (x ∷ p) (suc n) h = drop_all p n (omega arith)
 
-drop_some : (p : List ℕ) (n : ℕ) → n < length p → StartsFrom 0 (drop n p)
+pub drop_some : (p : List ℕ) (n : ℕ) → n < length p → StartsFrom 0 (drop n p)
 drop_some [] n h = absurd (omega arith)
 drop_some (x ∷ p) zero h = omega arith
 drop_some (x ∷ p) (suc n) h = drop_some p n (omega arith)

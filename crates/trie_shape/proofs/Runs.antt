@@ -12,13 +12,13 @@ use Rattle.trie_model.proofs.Order.{Before, RisingRows, slice_cmp-prefix}
 use Rattle.trie_model.proofs.Pairs.{from_before}
 use Rattle.trie_shape.specs.Runs.{Rises, StartsFrom, AllFrom, run_of, tails}
 
-apart : (x y : ℕ) → x < y → (x == y) ≡ false
+pub apart : (x y : ℕ) → x < y → (x == y) ≡ false
 apart x y h = grind (arith, nat_tests)
 
-apart' : (x y : ℕ) → y < x → (x == y) ≡ false
+pub apart' : (x y : ℕ) → y < x → (x == y) ≡ false
 apart' x y h = grind (arith, nat_tests)
 
-unequal : (x y : ℕ) → (x == y) ≡ false → x ≤ y → x < y
+pub unequal : (x y : ℕ) → (x == y) ≡ false → x ≤ y → x < y
 unequal x y t h = grind (arith, nat_tests)
 
 -- ---- rows in order, by recursion and by their paths
@@ -59,7 +59,7 @@ pub starts_later : (x : ℕ) (p q : List ℕ) → Before (x ∷ p) q → StartsF
 starts_later x p [] h = cc
 starts_later x p (y ∷ q) h = elim (first_or_rest x y p q h) [ inl l ↦ omega arith | inr e ↦ (let same = e.0 in omega arith) ]
 
-some_nibble : (p q : List ℕ) → Before p q → StartsFrom 0 q
+pub some_nibble : (p q : List ℕ) → Before p q → StartsFrom 0 q
 some_nibble [] [] h = cc
 some_nibble (x ∷ p) [] h = cc
 some_nibble p (y ∷ q) h = omega arith

@@ -1,11 +1,11 @@
 -- What subtrees show.
-use Rattle.std.proofs.Common.{◌≡◌, ℕ, ◌+◌, List, [], ◌∷◌, ◌++◌, ◌^◌, ◌<◌, ◌≤◌, Option, None, Some, Result, Ok, is_some, option_map, if◌then◌else◌, IfSome, IfNone, IsSome, refl, sym, ap, ap₂, subst, ◌∙◌, arith}
+use Rattle.std.proofs.Common.{◌≡◌, ℕ, ◌+◌, List, [], ◌∷◌, ◌++◌, ◌<◌, ◌≤◌, Option, None, Some, Result, Ok, option_map, IfSome, IfNone, IsSome, refl, sym, ap, ap₂, subst, ◌∙◌, arith}
 use Rattle.sha2.specs.Sha256.{sha256}
 use Rattle.byte_model.specs.Below.{sum_below}
-use Rattle.byte_model.specs.Borsh.{borsh_u16, borsh_u64}
+use Rattle.byte_model.specs.Borsh.{borsh_u64}
 use Rattle.byte_model.specs.Node as node
-use Rattle.byte_model.specs.Node.{Node, IsShaped, longest_value, spelled_children, spelled_value, child_bit, child_digest, spelled, own_cost, ValueRef as ValueOfRecord}
-use Rattle.byte_model.proofs.Below.{sum_below-agree, joined_below-agree}
+use Rattle.byte_model.specs.Node.{Node, IsShaped, longest_value, spelled_value, spelled, own_cost, ValueRef as ValueOfRecord}
+use Rattle.byte_model.proofs.Spellings.{spelled_children-agree}
 use Rattle.trie_model.specs.Grown.{grown, under}
 use Rattle.trie_model.specs.State.{Row}
 use Rattle.trie_model.specs.Tree.{Tree, nothing, leaf, branch, extension, ends_here, tree_of}
@@ -153,7 +153,7 @@ pub record IsNamed (self : Sub) (closed : Closed) : Type 0 where
 abbrev IsAbsent : Closed → Type 0
 IsAbsent closed = let result : Result (Option Closed) CloseError = Ok (Some closed) in result ≡ Ok None
 
-not_absent : (closed : Closed) → IsAbsent closed → ⊥
+pub not_absent : (closed : Closed) → IsAbsent closed → ⊥
 not_absent closed absent = cc
 
 -- what is closed is named by its record
@@ -165,10 +165,10 @@ name-closed (Extension path child used) closed none written = record { digest = 
 
 -- ---- whether that may be written
 
-no_node : (n : Node) → None ≡ Some n → IsShaped n
+pub no_node : (n : Node) → None ≡ Some n → IsShaped n
 no_node n e = cc
 
-one_node : (n other : Node) → IsShaped n → Some n ≡ Some other → IsShaped other
+pub one_node : (n other : Node) → IsShaped n → Some n ≡ Some other → IsShaped other
 one_node n other h e = let same : n ≡ other = cc in subst IsShaped same h
 
 pub may_close : (self : Sub) (tree : Tree) → Shows self tree → IsSound tree → MayClose self
@@ -184,13 +184,6 @@ may_close = by_kind (λ self tree. IsSound tree → MayClose self) (record {
 })
 
 -- ---- the record of a branch
-
-spelled_children-agree : (kids others : ℕ → Option (List ℕ)) → ((x : ℕ) → x < 16 → kids x ≡ others x) → spelled_children kids ≡ spelled_children others
-unfolding spelled_children
-spelled_children-agree kids others same =
-    ap₂ (λ (bits : ℕ) (digests : List ℕ). borsh_u16 bits ++ digests)
-    (sum_below-agree (child_bit kids) (child_bit others) 16 (λ x h. ap (λ (child : Option (List ℕ)). if is_some child then 2 ^ x else 0) (same x h)))
-    (joined_below-agree (λ x. child_digest (kids x)) (λ x. child_digest (others x)) 16 (λ x h. ap child_digest (same x h)))
 
 spelled-branch : (value : Option ValueOfRecord) (kids others : ℕ → Option (List ℕ)) (used : ℕ) → ((x : ℕ) → x < 16 → kids x ≡ others x) → spelled (node.branch value kids) used ≡ spelled (node.branch value others) used
 unfolding spelled

@@ -4,5 +4,3 @@ pub mod Runs
 pub mod RowsAt
 -- what a subtree stands for, and what a record that was written does
 pub mod Shows
--- what a text holds for a place of a trie
-pub mod Fitting

@@ -2,7 +2,7 @@ ghost use Rattle.std.specs.Prelude.{◌≡◌};
 ghost use Rattle.std.specs.Option.{option_map};
 ghost use Rattle.record_model.specs.Fits.{fits_at};
 ghost use Rattle.node_codec.specs.Views.{node_viewed};
-ghost use Rattle.trie_shape.specs.Fitting.{fitting_node};
+ghost use Rattle.record_model.specs.Fits.{fitting_node};
 
 use nibble_keys::LONGEST_PATH;
 use node_codec::{NodeView, read_node};

@@ -1,5 +1,5 @@
 -- What calls add to the ledger, one after the other.
-use Rattle.std.proofs.Common.{◌≡◌, ℕ, ◌+◌, List, [], ◌∷◌, ◌++◌, map, sym, ◌∙◌, ap, subst, append_assoc, arith}
+use Rattle.std.proofs.Common.{◌≡◌, ℕ, ◌+◌, List, [], ◌∷◌, ◌++◌, map, sym, ◌∙◌, ap, subst, arith}
 use Rattle.std.specs.List.{AllByRecursion}
 use Rattle.std.proofs.lemmas.List.{map-append, append-nil}
 use Rattle.sha2.specs.Sha256.{sha256}
@@ -9,6 +9,7 @@ use Rattle.trie_update.specs.declared.ledger.Gained.{Gained}
 use Rattle.trie_update.specs.declared.ledger.Ledger.{Ledger}
 use Rattle.trie_update.specs.Accounts.{Gains, Loses}
 use Rattle.trie_update.specs.Adds.{Adds}
+use Rattle.trie_update.proofs.Growing.{append-append}
 
 abbrev texts : List Gained → List (List ℕ)
 texts gained = map (λ g. g.text) gained
@@ -22,14 +23,11 @@ adds-none ledger = record {
   named = λ h. h;
 }
 
-chained : {X : Type 0} (a b c xs ys : List X) → b ≡ a ++ xs → c ≡ b ++ ys → c ≡ a ++ (xs ++ ys)
-chained {X} a b c xs ys e f = f ∙ ap (λ (z : List X). z ++ ys) e ∙ append_assoc a xs ys
-
 pub adds-then : (a b c : Ledger) (made lost : List (List ℕ)) (fresh gone : ℕ) (made' lost' : List (List ℕ)) (fresh' gone' : ℕ) → Adds a b made lost fresh gone → Adds b c made' lost' fresh' gone' → Adds a c (made ++ made') (lost ++ lost') (fresh + fresh') (gone + gone')
 adds-then a b c made lost fresh gone made' lost' fresh' gone' first further = record {
   grows = record {
-    gained = chained (texts a.gained.items) (texts b.gained.items) (texts c.gained.items) made made' first.grows.gained further.grows.gained;
-    lost = chained (bytes a.lost.items) (bytes b.lost.items) (bytes c.lost.items) lost lost' first.grows.lost further.grows.lost;
+    gained = append-append (texts a.gained.items) (texts b.gained.items) (texts c.gained.items) made made' first.grows.gained further.grows.gained;
+    lost = append-append (bytes a.lost.items) (bytes b.lost.items) (bytes c.lost.items) lost lost' first.grows.lost further.grows.lost;
     fresh = let one = first.grows.fresh in let two = further.grows.fresh in omega arith;
     gone = let one = first.grows.gone in let two = further.grows.gone in omega arith;
   };

@@ -1,21 +1,15 @@
 -- The visit of a place below which no key is changed.
-use Rattle.std.proofs.Common.{◌≡◌, ◌≢◌, ℕ, zero, suc, ◌+◌, ◌-◌, ◌≤◌, ◌<◌, Bool, true, false, if◌then◌else◌, List, [], length, Option, None, Some, Result, Ok, Err, refl, sym, ◌∙◌, ap, ap₂, subst, arith}
-use Rattle.std.specs.FinMap.{get}
-use Rattle.byte_model.specs.PackedPath.{longest_path}
-use Rattle.byte_model.specs.Node as node
-use Rattle.byte_model.specs.Node.{Node}
-use Rattle.record_model.specs.Records.{RecordFault, record_in}
-use Rattle.record_model.specs.Fits.{fits_at}
+use Rattle.std.proofs.Common.{◌≡◌, ◌≢◌, ℕ, ◌+◌, ◌-◌, ◌≤◌, ◌<◌, true, false, List, [], length, sym, ◌∙◌, ap, ap₂, subst, arith}
 use Rattle.trie_model.specs.Root.{Table}
-use Rattle.visit_model.specs.Seen.{Seen, Looks, bad, seen_at, seen_child, seen_node, seen_record, seen_text, seen_within, stated_usage}
+use Rattle.visit_model.specs.Seen.{Seen, seen_at, stated_usage}
 use Rattle.change_model.specs.Along.{digest_of}
 use Rattle.change_model.specs.Visits.{before, opened, closed, most_usage, visit_alone}
+use Rattle.change_model.proofs.Seeing.{digest_of-seen_at}
 use Rattle.base_core.specs.declared.hash.Digest.{Digest}
 use Rattle.node_codec.specs.declared.node.Node as code
 use Rattle.node_codec.specs.declared.node.Node.TheVariants.{Leaf, Branch, Extension}
 use Rattle.update_model.specs.Sound.{StandsAt}
 use Rattle.update_model.specs.Tops as top
-use Rattle.update_model.specs.Tops.{Top}
 use Rattle.update_model.specs.Updates.{digest_or_none, lost_alone, top_seen}
 use Rattle.trie_update.specs.declared.visiting.Visited.{Visited}
 use Rattle.trie_update.specs.Merges.{top_read, lost_read}
@@ -23,43 +17,9 @@ use Rattle.trie_update.proofs.SeenVisits.{SeesCopy}
 
 -- ---- what is seen of a digest is named by it
 
-node_name : (look : Looks) (depth : ℕ) (digest : List ℕ) (n : Node) (usage : ℕ) → digest_of (seen_node look depth digest n usage) ≡ Some digest
-unfolding seen_node digest_of
-node_name look depth digest (node.leaf path ref) usage = refl
-node_name look depth digest (node.branch ref kids) usage = refl
-node_name look depth digest (node.extension path child) usage = refl
-
-record_name : (look : Looks) (depth : ℕ) (after_extension : Bool) (digest : List ℕ) (read : Result (Node × ℕ) RecordFault) → digest_of (seen_record look depth after_extension digest read) ≡ Some digest
-unfolding seen_record digest_of
-record_name look depth after_extension digest (Err fault) = refl
-record_name look depth after_extension digest (Ok found) =
-    elim (fits_at depth after_extension found.0) as (λ b. digest_of (if b then seen_node look depth digest found.0 found.1 else bad digest) ≡ Some digest) [
-      | true ↦ node_name look depth digest found.0 found.1
-      | false ↦ refl
-    ]
-
-text_name : (look : Looks) (depth : ℕ) (after_extension : Bool) (digest : List ℕ) (held : Option (List ℕ)) → digest_of (seen_text look depth after_extension digest held) ≡ Some digest
-unfolding seen_text digest_of
-text_name look depth after_extension digest None = refl
-text_name look depth after_extension digest (Some text) = record_name look depth after_extension digest (record_in text)
-
-within_name : (n : ℕ) (table : Table) (depth : ℕ) (after_extension : Bool) (digest : List ℕ) → digest_of (seen_within n table depth after_extension digest) ≡ Some digest
-unfolding seen_within digest_of
-within_name zero table depth after_extension digest = refl
-within_name (suc n) table depth after_extension digest = text_name (seen_within n table) depth after_extension digest (get table digest)
-
-pub name-seen_at : (table : Table) (depth : ℕ) (after_extension : Bool) (digest : List ℕ) → digest_of (seen_at table depth after_extension digest) ≡ Some digest
-unfolding seen_at
-name-seen_at table depth after_extension digest = within_name (suc longest_path - depth) table depth after_extension digest
-
-pub name-seen_child : (table : Table) (depth : ℕ) (child : Option (List ℕ)) → digest_of (seen_child (seen_at table depth false) child) ≡ child
-unfolding seen_child digest_of
-name-seen_child table depth None = refl
-name-seen_child table depth (Some digest) = name-seen_at table depth false digest
-
 -- ---- a place that was read
 
-some_path : (path : List ℕ) → 0 < length path → path ≢ []
+pub some_path : (path : List ℕ) → 0 < length path → path ≢ []
 some_path path some none = let long = ap length none in absurd (omega arith)
 
 module _ (table : Table) (depth : ℕ) (digest : Digest) (visited : Visited) where
@@ -95,7 +55,7 @@ module _ (table : Table) (depth : ℕ) (digest : Digest) (visited : Visited) whe
       }
   read-alone (Extension path child) e sees =
       let s = sees.seen in
-      let name : digest_or_none (digest_of (seen_at table (depth + length path) true child.0)) ≡ child.0 = ap digest_or_none (name-seen_at table (depth + length path) true child.0) in
+      let name : digest_or_none (digest_of (seen_at table (depth + length path) true child.0)) ≡ child.0 = ap digest_or_none (digest_of-seen_at table (depth + length path) true child.0) in
       let room = sees.room in
       record {
         visits = ap visit_alone s ∙ ap (λ n. before (opened digest.0 visited.stated) (closed digest.0 visited.stated n)) (sym sees.own);

@@ -14,9 +14,9 @@ use Rattle.byte_model.proofs.Digits.{length-nibbles, slice_cmp-nibbles, AreNibbl
 use Rattle.trie_model.proofs.Order.{Before, first_test, second_test, less_of_test}
 use Rattle.batch_model.specs.Changes.{Change, IsChange, AreChanges, change_rows, most_changes}
 use Rattle.change_model.specs.Visits.{Visits, where_touched}
+use Rattle.update_model.proofs.Behind.{rises, RisingChanges}
 use Rattle.base_core.specs.ChangeMaps.{ChangeMap, IsChangeMap}
 use Rattle.trie_update.specs.ChangesAt.{Lent, Rises, AreChangesAt, IsChangeAt, changes_at, value_lent}
-use Rattle.trie_update.proofs.Runs.{RisingChanges, rises}
 
 -- slices, as the changes that they are
 abbrev pub lent : List Lent → List Change

@@ -17,9 +17,9 @@ use Rattle.trie_shape.proofs.Prefixes.{common-of_length}
 use Rattle.nibble_keys.specs.CommonLength.{IsCommonLength}
 use Rattle.batch_model.specs.Changes.{Change}
 use Rattle.change_model.specs.Visits.{changes_behind}
+use Rattle.update_model.proofs.Behind.{rising, rises, RisingChanges}
 use Rattle.trie_update.specs.ChangesAt.{AllBegin, Lent, value_lent, change_at, changes_at, IsChangeAt, AreChangesAt, BeginAsFirst, AllGoOn}
 use Rattle.trie_update.specs.Olds.{BeginAs}
-use Rattle.trie_update.proofs.Runs.{RisingChanges, rising, rises}
 use Rattle.trie_update.proofs.ChangesAt.{each_at}
 
 -- ---- changes without a prefix

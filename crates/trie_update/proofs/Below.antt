@@ -1,22 +1,13 @@
 -- The changes below a place, as the model asks for them.
-use Rattle.std.proofs.Common.{ℕ, zero, suc, ◌≤◌, ◌<◌, List, [], ◌∷◌, length, take, drop, Option, None, Some, IfSome, arith}
+use Rattle.std.proofs.Common.{ℕ, ◌≤◌, ◌<◌, List, [], ◌∷◌, length, Option, None, Some, IfSome, arith}
 use Rattle.std.specs.Borrow.{Bor}
 use Rattle.std.specs.List.{AllByRecursion}
 use Rattle.std.proofs.lemmas.List.{length-drop}
 use Rattle.byte_model.specs.Nibbles.{nibbles}
 use Rattle.byte_model.specs.Node.{longest_value}
+use Rattle.byte_model.proofs.Lists.{AllByRecursion-drop}
 use Rattle.update_model.specs.Sound.{IsBelow, AreBelow}
 use Rattle.trie_update.specs.ChangesAt.{AreChangesAt, IsChangeAt, Lent, changes_at, value_lent}
-
-pub all-drop : {X : Type 0} (P : X → Type 0) (n : ℕ) (xs : List X) → AllByRecursion P xs → AllByRecursion P (drop n xs)
-all-drop P zero xs h = h
-all-drop P (suc n) [] h = tt
-all-drop P (suc n) (x ∷ xs) h = all-drop P n xs h.1
-
-pub all-take : {X : Type 0} (P : X → Type 0) (n : ℕ) (xs : List X) → AllByRecursion P xs → AllByRecursion P (take n xs)
-all-take P zero xs h = tt
-all-take P (suc n) [] h = tt
-all-take P (suc n) (x ∷ xs) h = (h.0, all-take P n xs h.1)
 
 small_value : (value : Option (Bor (List ℕ))) → IfSome value (λ v. length v.now ≤ longest_value) → IfSome (value_lent value) (λ v. length v ≤ longest_value)
 small_value None h = tt
@@ -28,7 +19,7 @@ each_below depth (change ∷ changes) h =
     let left = length-drop depth (nibbles change.0.now) in
     let deep = h.0.deep in
     let short = h.0.short in
-    (record { nibbles = all-drop (λ nibble. nibble < 16) depth (nibbles change.0.now) h.0.nibbles; short = omega arith; value = small_value change.1 h.0.value }, each_below depth changes h.1)
+    (record { nibbles = AllByRecursion-drop (λ nibble. nibble < 16) depth (nibbles change.0.now) h.0.nibbles; short = omega arith; value = small_value change.1 h.0.value }, each_below depth changes h.1)
 
 pub below-changes_at : (depth : ℕ) (changes : List Lent) → AreChangesAt depth changes → AreBelow depth (changes_at depth changes)
 below-changes_at depth changes h = record { rise = h.rises; each = each_below depth changes h.each }

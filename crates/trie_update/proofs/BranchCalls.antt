@@ -7,6 +7,7 @@ use Rattle.byte_model.specs.Below.{sum_below, joined_below}
 use Rattle.byte_model.proofs.Below.{sum_below-agree, joined_below-agree}
 use Rattle.byte_model.specs.PackedPath.{longest_path}
 use Rattle.byte_model.specs.Node.{ValueRef, longest_value}
+use Rattle.byte_model.proofs.Lists.{some_items}
 use Rattle.trie_model.specs.Root.{Table}
 use Rattle.trie_model.proofs.Rests.{equal_of_test}
 use Rattle.visit_model.specs.Seen as seen
@@ -14,8 +15,10 @@ use Rattle.visit_model.specs.Seen.{Seen, seen_at, seen_child, stated_usage}
 use Rattle.batch_model.specs.Changes.{Change, most_changes}
 use Rattle.change_model.specs.Along.{digest_of}
 use Rattle.change_model.specs.Visits.{Visits, no_usage, before, branch_cost, change_at, closed, has_value_after, if_touched, is_left, is_untouched, lone_child, merge_usage, merge_visits, merged_child, most_usage, numbers_below, opened, visit_alone, visits_at, visits_below, where_touched}
-use Rattle.change_model.proofs.Along.{numbers_below-agree}
+use Rattle.change_model.proofs.Along.{numbers_below-agree, visits_below-agree}
 use Rattle.change_model.proofs.Laid.{same_tests}
+use Rattle.change_model.proofs.Seeing.{digest_of-child}
+use Rattle.change_model.proofs.Merging.{lone_from, IsLone}
 use Rattle.text_store.specs.Store.{Store}
 use Rattle.node_codec.specs.declared.value_ref.ValueRef as code
 use Rattle.node_codec.specs.declared.kids.Kids.{Kids}
@@ -25,15 +28,15 @@ use Rattle.update_model.specs.Tops.{empty, top_usage}
 use Rattle.update_model.specs.Joins.{Joint, Kid, known, named, is_there, joint, kid_top, there}
 use Rattle.update_model.specs.Updates.{Outcome, appearing, branch_outcome, disappearing, kid_after, kid_kept, kid_outcome, kids_after, laid, lost_alone, merged_kids, merged_lost, no_branch, parts, ref_after, top_seen, updated, value_lost, value_made}
 use Rattle.update_model.proofs.Behind.{below-nibble}
-use Rattle.update_model.proofs.Joined.{ShortValue, stands-joint}
+use Rattle.update_model.proofs.Joined.{ShortValue, stands-joint, only-holds}
 use Rattle.update_model.proofs.JointsAlike.{joint-agree}
 use Rattle.update_model.proofs.LaidSteps.{laid-agree}
 use Rattle.update_model.proofs.Limits.{usage-small}
 use Rattle.update_model.proofs.StandsAfter.{kid-stands, short-after, updated-stands}
 use Rattle.update_model.proofs.Unrefused.{IsDone, BranchDone, branch-done}
-use Rattle.update_model.proofs.Usages.{growth}
 use Rattle.update_model.proofs.UsagesAfter.{branch-grows, branch-sums, updated-grows}
-use Rattle.update_model.proofs.WhatIsLeft.{IsLone, branch-causes, branch-left, has_value-after, knows-lone, lone-from, there-inner, updated-left}
+use Rattle.update_model.proofs.WhatIsLeft.{branch-causes, branch-left, has_value-after, knows-lone, there-inner, updated-left}
+use Rattle.update_model.specs.Growth.{growth}
 use Rattle.trie_update.specs.declared.former.Parent.TheVariants as parent
 use Rattle.trie_update.specs.declared.errors.UpdateError.{UpdateError}
 use Rattle.trie_update.specs.declared.joining.Left.{Left}
@@ -46,12 +49,9 @@ use Rattle.trie_update.specs.Places.{Keeps, Place, PlaceKeeps, kid_place, place_
 use Rattle.trie_update.specs.Placed.{IsParted, IsPlaced, branch_inside, run_at}
 use Rattle.trie_update.specs.Subs.{CanJoin, IsKnown, KidStands, kid_at, top_of_sub}
 use Rattle.trie_update.proofs.Adding.{adds-same, adds-then}
-use Rattle.trie_update.proofs.AloneVisits.{name-seen_child}
 use Rattle.trie_update.proofs.Carrying.{before-done, carries-stopped, carries-then}
-use Rattle.trie_update.proofs.Children.{lone-number}
-use Rattle.trie_update.proofs.ForkCalls.{stands-anywhere, visits_below-agree}
+use Rattle.trie_update.proofs.ForkCalls.{stands-anywhere}
 use Rattle.trie_update.proofs.Lones.{can-join-agree}
-use Rattle.trie_update.proofs.Lowering.{some_change}
 
 -- ---- one child, by its name
 
@@ -70,13 +70,13 @@ module _ (table : Table) (depth : ℕ) where
   kid-outcome : (o : Option (List ℕ)) (changes : List Change) → place_outcome (kid_place table depth o) changes ≡ kid_outcome changes (updated (seen_child look o) changes)
   unfolding place_outcome seen_child
   kid-outcome None [] = refl
-  kid-outcome None (change ∷ changes) = none_named (change ∷ changes) (some_change change changes)
+  kid-outcome None (change ∷ changes) = none_named (change ∷ changes) (some_items change changes)
   kid-outcome (Some digest) changes = refl
 
   kid-kid : (o : Option (List ℕ)) (changes : List Change) → place_kid (kid_place table depth o) changes ≡ kid_after (seen_child look o) changes (updated (seen_child look o) changes)
   unfolding place_kid seen_child digest_of
   kid-kid None [] = refl
-  kid-kid None (change ∷ changes) = ap (λ (o : Outcome). known o.top) (none_named (change ∷ changes) (some_change change changes))
+  kid-kid None (change ∷ changes) = ap (λ (o : Outcome). known o.top) (none_named (change ∷ changes) (some_items change changes))
   kid-kid (Some digest) changes = refl
 
   kid-visits : (o : Option (List ℕ)) (changes : List Change) → place_visits (kid_place table depth o) changes ≡ where_touched changes (visits_at (seen_child look o) changes)
@@ -141,7 +141,7 @@ module _ (table : Table) (depth : ℕ) (ref : Option ValueRef) (names : ℕ → 
   left x = is_left (children x) (run x)
 
   named_is : (x : ℕ) → x < 16 → digest_of (children x) ≡ names x
-  named_is x small = ap digest_of (children_is x small) ∙ name-seen_child table (depth + 1) (names x)
+  named_is x small = ap digest_of (children_is x small) ∙ digest_of-child table (depth + 1) (names x)
 
   module _ (keeps : (x : ℕ) → x < 16 → run x ≢ [] → Keeps (depth + 1) (children x) (run x)) where
     each_left : (x : ℕ) → x < 16 → run x ≢ [] → is_there (known (outcomes x).top) ≡ is_left (children x) (run x)
@@ -160,7 +160,7 @@ module _ (table : Table) (depth : ℕ) (ref : Option ValueRef) (names : ℕ → 
       alone_is x only = go (run x) refl
         where
           here : (x < 16) × (is_there (kids x) ≡ true)
-          here = lone-number (λ y. is_there (kids y)) 16 x only
+          here = only-holds (λ y. is_there (kids y)) 16 x only
 
           go : (cs : List Change) → run x ≡ cs → if_named x (kids x) ≡ (if is_untouched cs then Some x else None)
           go [] e =
@@ -186,10 +186,10 @@ module _ (table : Table) (depth : ℕ) (ref : Option ValueRef) (names : ℕ → 
       seen_is x e = (small, ap (seen_kid table (depth + 1)) (kept ∙ ap kid_kept (named_is x small)) ∙ go (names x) refl)
         where
           lone : IsLone (has_value_after ref changes) (numbers_below left 16) changes x
-          lone = lone-from (has_value_after ref changes) (numbers_below left 16) changes x (sym lone-is ∙ e)
+          lone = lone_from (has_value_after ref changes) (numbers_below left 16) changes x (sym lone-is ∙ e)
 
           here : (x < 16) × (is_there (kids x) ≡ true)
-          here = lone-number (λ y. is_there (kids y)) 16 x (there_is ∙ lone.only)
+          here = only-holds (λ y. is_there (kids y)) 16 x (there_is ∙ lone.only)
 
           small : x < 16
           small = here.0

@@ -7,9 +7,11 @@ use Rattle.std.proofs.lemmas.List.{length-append}
 use Rattle.byte_model.specs.PackedPath.{longest_path}
 use Rattle.byte_model.specs.Node as node
 use Rattle.byte_model.specs.Node.{Node, ValueRef}
+use Rattle.record_model.specs.Fits.{fitting_node}
 use Rattle.trie_model.specs.Root.{Table}
 use Rattle.visit_model.specs.Seen.{Seen, Looks, nothing, missing, bad, leaf, branch, extension, seen_at, seen_node, stated_usage}
 use Rattle.batch_model.specs.Changes.{Change}
+use Rattle.visit_model.proofs.SeenTexts.{seen-missing, seen-bad, seen-node}
 use Rattle.change_model.specs.Visits.{Visits, Refusal, no_text, no_node, no_usage, no_visits, refused, and_then, before, most_usage, opened, closed, is_named, visits_at, visit_alone, visits_below, where_touched, if_touched, changes_behind, merge_visits, merged_child, leaf_cost, branch_cost, extension_cost}
 use Rattle.update_model.specs.Updates.{parts}
 use Rattle.base_core.specs.Faults as ended
@@ -17,13 +19,12 @@ use Rattle.base_core.specs.declared.hash.Digest.{Digest}
 use Rattle.text_store.specs.Store.{Store}
 use Rattle.text_store.specs.Leaves.{Leaves}
 use Rattle.text_store.proofs.Leaves.{Leaves-none, Leaves-then, Leaves-refused, Leaves-within, Leaves-short_within}
-use Rattle.trie_shape.specs.Fitting.{fitting_node}
 use Rattle.trie_update.specs.declared.errors.UpdateError.{UpdateError}
 use Rattle.trie_update.specs.declared.errors.UpdateError.TheVariants.{Missing, Bad, Usage, Clash, Fault, NoMemory}
 pub use Rattle.trie_update.specs.Carries.{Carries}
 use Rattle.trie_update.specs.Endings.{by_error, update_ended}
 use Rattle.trie_update.specs.Visiting.{AnswersVisit, AnswersBatch}
-use Rattle.trie_update.proofs.Seeing.{seen-missing, seen-bad, seen-node, named-seen_at}
+use Rattle.trie_update.proofs.Seeing.{named-seen_at}
 
 -- ---- visits after visits
 

@@ -1,17 +1,18 @@
 -- Changed keys in order, from a depth on.
-use Rattle.std.proofs.Common.{◌≡◌, ℕ, zero, suc, ◌<◌, ◌≤◌, ◌==◌, Bool, true, false, List, [], ◌∷◌, length, drop, get_or, None, Some, if◌then◌else◌, inl, inr, refl, sym, ◌∙◌, ap, subst, arith}
-use Rattle.std.proofs.lemmas.List.{drop_all}
+use Rattle.std.proofs.Common.{◌≡◌, ◌≢◌, ℕ, zero, suc, ◌<◌, ◌≤◌, Bool, true, false, List, [], ◌∷◌, length, drop, get_or, None, Some, if◌then◌else◌, refl, sym, ◌∙◌, ap, subst, arith}
+use Rattle.std.proofs.lemmas.List.{drop_all, length-map}
 use Rattle.std.specs.List.{AllByRecursion}
 use Rattle.std.specs.List.Sorted.{IsPartitionedBy, IsPartitionPoint}
 use Rattle.byte_model.specs.Nibbles.{nibbles}
-use Rattle.trie_model.proofs.Rests.{equal_of_test}
+use Rattle.byte_model.specs.PackedPath.{longest_path}
 use Rattle.trie_model.proofs.Order.{Before}
-use Rattle.trie_shape.specs.Runs.{StartsFrom, goes_on}
-use Rattle.trie_shape.proofs.Runs.{first_or_rest}
+use Rattle.trie_shape.specs.Runs.{goes_on}
 use Rattle.batch_model.specs.Changes.{Change, found_at}
 use Rattle.change_model.specs.Visits.{changes_behind}
+use Rattle.update_model.proofs.Behind.{behind-first, rising, rises, RisingChanges}
+use Rattle.trie_shape.proofs.RowsAt.{first_of, drop_some}
 use Rattle.trie_update.specs.ChangesAt.{Lent, value_lent, change_at, changes_at, AreChangesAt, IsLeft, AllFrom, run_of}
-use Rattle.trie_update.proofs.Runs.{RisingChanges, rising, rises, all-behind, none-ends, ends-first, below-first}
+use Rattle.trie_update.proofs.Runs.{all-behind, none-ends, ends-first}
 
 -- ---- how long a run is
 
@@ -28,17 +29,6 @@ pub each_at : (P : Change → Type 0) (depth : ℕ) (changes : List Lent) (j : �
 each_at P depth [] j d h all = absurd (omega arith)
 each_at P depth (change ∷ changes) zero d h all = all.0
 each_at P depth (change ∷ changes) (suc j) d h all = each_at P depth changes j d (omega arith) all.1
-
--- a path below one that goes on with the lowest nibble goes on with it too
-first_of : (x : ℕ) (p q : List ℕ) → StartsFrom x p → Before p q → goes_on x q ≡ true → goes_on x p ≡ true
-first_of x [] q from before goes = absurd from
-first_of x (y ∷ p) [] from before goes = cc
-first_of x (y ∷ p) (z ∷ q) from before goes =
-    let same = equal_of_test x z goes in
-    elim (first_or_rest y z p q before) [
-      | inl less ↦ absurd (omega arith)
-      | inr e ↦ subst (λ w. (x == w) ≡ true) (sym e.0) goes
-    ]
 
 -- rising changes go on with the lowest nibble up to some place
 pub parted : (x depth : ℕ) (changes : List Lent) → RisingChanges (changes_at depth changes) → AllFrom x (changes_at depth changes) → IsPartitionedBy (λ change. goes_on x (change_at depth change).0) changes
@@ -61,11 +51,6 @@ point-run x depth (change ∷ changes) (suc i) h point =
 
 -- ---- the change that ends at a depth
 
-drop_some : (p : List ℕ) (n : ℕ) → n < length p → StartsFrom 0 (drop n p)
-drop_some [] n h = absurd (omega arith)
-drop_some (x ∷ p) zero h = omega arith
-drop_some (x ∷ p) (suc n) h = drop_some p n (omega arith)
-
 pub tail_changes : (depth : ℕ) (change : Lent) (changes : List Lent) → AreChangesAt depth (change ∷ changes) → AreChangesAt depth changes
 tail_changes depth change changes h = record { rises = rises (changes_at depth changes) (rising (changes_at depth (change ∷ changes)) h.rises).1; each = h.each.1 }
 
@@ -83,7 +68,7 @@ module _ (depth : ℕ) (changes rest : List Lent) (change : Lent) where
       record {
         changes = tail_changes depth change rest whole;
         from = all-behind (change_at depth change) (changes_at depth rest) (rising (changes_at depth (change ∷ rest)) whole.rises);
-        below = λ y _. ap (λ (cs : List Lent). changes_behind (y ∷ []) (changes_at depth cs)) e ∙ ap (λ (p : List ℕ). changes_behind (y ∷ []) ((p, value_lent change.1) ∷ changes_at depth rest)) none ∙ below-first y (value_lent change.1) (changes_at depth rest);
+        below = λ y _. ap (λ (cs : List Lent). changes_behind (y ∷ []) (changes_at depth cs)) e ∙ ap (λ (p : List ℕ). changes_behind (y ∷ []) ((p, value_lent change.1) ∷ changes_at depth rest)) none ∙ behind-first y (value_lent change.1) (changes_at depth rest);
         fewer = let longer = ap length e in omega arith;
       }
 
@@ -105,3 +90,15 @@ no-change depth changes e = sym (ap (λ (cs : List Lent). found_at [] (changes_a
 
 pub left-none : (depth : ℕ) (changes : List Lent) → changes ≡ [] → AreChangesAt depth changes → IsLeft 0 depth changes changes
 left-none depth changes e h = record { changes = h; from = subst (λ (cs : List Lent). AllFrom 0 (changes_at depth cs)) (sym e) tt; below = λ y _. refl; fewer = omega arith }
+
+pub length-changes_at : (depth : ℕ) (changes : List Lent) → length (changes_at depth changes) ≡ length changes
+length-changes_at depth changes = length-map changes (change_at depth)
+
+pub changes-some : (depth : ℕ) (changes : List Lent) → 1 ≤ length changes → changes_at depth changes ≢ []
+changes-some depth [] some = absurd (omega arith)
+changes-some depth (change ∷ changes) some = λ e. cc
+
+-- some changes reach no deeper than the longest path
+pub lent-deep : (depth : ℕ) (changes : List Lent) → AreChangesAt depth changes → 1 ≤ length changes → depth ≤ longest_path
+lent-deep depth [] h some = absurd (omega arith)
+lent-deep depth (change ∷ changes) h some = let deep = h.each.0.deep in let short = h.each.0.short in omega arith

@@ -1,21 +1,23 @@
 -- What stands at the sixteen nibbles of what is left of a branch: how many children are there, and what they join to.
-use Rattle.std.proofs.Common.{◌≡◌, ◌≢◌, ℕ, zero, suc, ◌+◌, ◌^◌, ◌<◌, ◌≤◌, Bool, true, false, List, [], ◌∷◌, ◌++◌, length, drop, set, get_or, Option, None, Some, is_some, option_map, if◌then◌else◌, inl, inr, refl, sym, ◌∙◌, ap, ap₂, subst, arith, get_or-set_other, get_or-set_same}
+use Rattle.std.proofs.Common.{◌≡◌, ◌≢◌, ℕ, zero, suc, ◌+◌, ◌^◌, ◌<◌, ◌≤◌, Bool, true, false, List, [], ◌∷◌, ◌++◌, length, drop, set, get_or, Option, None, Some, option_map, if◌then◌else◌, inl, inr, refl, sym, ◌∙◌, ap, ap₂, subst, arith, get_or-set_other, get_or-set_same}
 use Rattle.std.specs.List.{AllByRecursion}
 use Rattle.std.proofs.lemmas.Bool.{cases_lt}
 use Rattle.std.proofs.lemmas.List.{length-append, length-drop, drop-drop}
 use Rattle.std.proofs.Math.ListN.{length-set}
 use Rattle.sha2.specs.Sha256.{sha256}
 use Rattle.byte_model.specs.Below.{sum_below, joined_below}
-use Rattle.byte_model.proofs.Below.{sum_below-agree, sum_below-more, joined_below-agree, joined_below-more}
+use Rattle.byte_model.proofs.Below.{sum_below-more, joined_below-more, sum_below-part}
 use Rattle.byte_model.proofs.Lists.{AllByRecursion-append, AllByRecursion-weaker}
-use Rattle.byte_model.specs.Borsh.{borsh_u16, borsh_u64}
 use Rattle.byte_model.specs.Node as node
-use Rattle.byte_model.specs.Node.{ValueRef, IsShaped, longest_value, own_cost, spelled, spelled_children, spelled_value, child_bit, child_digest, child_count}
+use Rattle.byte_model.specs.Node.{ValueRef, IsShaped, own_cost, spelled}
+use Rattle.byte_model.proofs.Spellings.{spelled_branch-agree}
+use Rattle.record_model.proofs.Kids.{child_count-same}
 use Rattle.change_model.specs.Visits.{numbers_below, branch_cost}
 use Rattle.base_core.specs.declared.hash.Digest.{Digest}
 use Rattle.node_codec.specs.Meanings.{children_in}
-use Rattle.update_model.specs.Tops.{empty, leaf, branch, extension, lowered, top_digest}
-use Rattle.update_model.specs.Joins.{Kid, named, known, is_there, there, kid_top, kid_name, kid_usage, kid_pending, without_texts, branch_used, branch_text, branched, joint_by, joint}
+use Rattle.update_model.specs.Tops.{branch, lowered}
+use Rattle.update_model.specs.Joins.{Kid, there, kid_top, kid_name, kid_usage, kid_pending, without_texts, branch_used, branch_text, branched, joint_by, joint}
+use Rattle.update_model.proofs.Joined.{child_count-there}
 use Rattle.trie_shape.specs.declared.closed.Closed.{Closed}
 use Rattle.trie_shape.specs.Shows.{IsRecord}
 use Rattle.trie_update.specs.declared.joining.Child.{Child}
@@ -46,14 +48,6 @@ kid_at-first children rest first e = ap (λ (cs : List Child). kid_at cs 0) e
 
 -- ---- how many are there
 
-pub there-kid : (kid : Kid) → is_some (kid_name kid) ≡ is_there kid
-unfolding kid_name is_there top_digest
-there-kid (named digest) = refl
-there-kid (known empty) = refl
-there-kid (known (leaf path ref)) = refl
-there-kid (known (branch digest used)) = refl
-there-kid (known (extension path child used)) = refl
-
 pub few-none : (f : ℕ → Bool) → IsFew (numbers_below f 0) Zero
 unfolding numbers_below
 few-none f = refl
@@ -81,20 +75,6 @@ few-more f n few h e = subst (λ (ns : List ℕ). IsFew ns (more few n)) (sym (o
 pub few-same : (f : ℕ → Bool) (n : ℕ) (few : Few) → IsFew (numbers_below f n) few → f n ≡ false → IsFew (numbers_below f (n + 1)) few
 few-same f n few h e = subst (λ (ns : List ℕ). IsFew ns few) (sym (no_number f n e)) h
 
-count-numbers : (f : ℕ → Bool) (n : ℕ) → sum_below (λ x. if f x then 1 else 0) n ≡ length (numbers_below f n)
-unfolding sum_below numbers_below
-count-numbers f zero = refl
-count-numbers f (suc n) =
-    let further = count-numbers f n in
-    let all = length-append (numbers_below f n) (if f n then n ∷ [] else []) in
-    let last : length (if f n then n ∷ [] else []) ≡ (if f n then 1 else 0) = elim (f n) as (λ b. length (if b then n ∷ [] else []) ≡ (if b then 1 else 0)) [ true ↦ refl | false ↦ refl ] in
-    omega arith
-
-count-there : (kids : ℕ → Kid) → child_count (λ x. kid_name (kids x)) ≡ length (there kids)
-count-there kids =
-    sum_below-agree (λ x. if is_some (kid_name (kids x)) then 1 else 0) (λ x. if is_there (kids x) then 1 else 0) 16 (λ x h. ap (λ (b : Bool). if b then 1 else 0) (there-kid (kids x)))
-    ∙ count-numbers (λ x. is_there (kids x)) 16
-
 numbers-all : (f : ℕ → Bool) (n : ℕ) → AllByRecursion (λ y. (y < n) × (f y ≡ true)) (numbers_below f n)
 unfolding numbers_below
 numbers-all f zero = tt
@@ -103,18 +83,14 @@ numbers-all f (suc n) =
     (AllByRecursion-weaker (λ y. (y < n) × (f y ≡ true)) (λ y. (y < suc n) × (f y ≡ true)) (λ y h. (let small = h.0 in omega arith, h.1)) (numbers_below f n) (numbers-all f n))
     (elim (f n) as (λ b. f n ≡ b → AllByRecursion (λ y. (y < suc n) × (f y ≡ true)) (if b then n ∷ [] else [])) [ true ↦ λ e. ((omega arith, e), tt) | false ↦ λ e. tt ] refl)
 
--- the one that is alone
-pub lone-number : (f : ℕ → Bool) (n x : ℕ) → numbers_below f n ≡ x ∷ [] → (x < n) × (f x ≡ true)
-lone-number f n x e = (subst (AllByRecursion (λ y. (y < n) × (f y ≡ true))) e (numbers-all f n)).0
-
 -- ---- they fork
 
 pub fork-two : (ref : Option ValueRef) (kids : ℕ → Kid) (used : ℕ) → CanJoin ref kids used → 2 ≤ length (there kids) → CanFork ref kids used
-fork-two None kids used can two = record { stands = can.stands; fits = can.fits; shaped = let count = count-there kids in omega arith }
-fork-two (Some ref) kids used can two = record { stands = can.stands; fits = can.fits; shaped = (can.value, let count = count-there kids in omega arith) }
+fork-two None kids used can two = record { stands = can.stands; fits = can.fits; shaped = let count = child_count-there kids in omega arith }
+fork-two (Some ref) kids used can two = record { stands = can.stands; fits = can.fits; shaped = (can.value, let count = child_count-there kids in omega arith) }
 
 pub fork-one : (ref : ValueRef) (kids : ℕ → Kid) (used x : ℕ) → CanJoin (Some ref) kids used → there kids ≡ x ∷ [] → CanFork (Some ref) kids used
-fork-one ref kids used x can one = record { stands = can.stands; fits = can.fits; shaped = (can.value, let count = count-there kids in let long = ap length one in omega arith) }
+fork-one ref kids used x can one = record { stands = can.stands; fits = can.fits; shaped = (can.value, let count = child_count-there kids in let long = ap length one in omega arith) }
 
 -- ---- what they join to
 
@@ -155,14 +131,6 @@ pub naming-none : (whole : List Child) (kids : List (Option Digest)) (kept : ℕ
 unfolding sum_below joined_below
 naming-none whole kids kept ledger sixteen = record { left = refl; sixteen = sixteen; names = λ y h. absurd (omega arith); used = omega arith; adds = adds-none ledger }
 
-sum-part : (f : ℕ → ℕ) (m n : ℕ) → m ≤ n → sum_below f m ≤ sum_below f n
-unfolding sum_below
-sum-part f m zero h = let none : m ≡ 0 = omega arith in subst (λ k. sum_below f k ≤ 0) (sym none) (omega arith)
-sum-part f m (suc n) h = elim (cases_lt m (suc n)) [
-  | inl less ↦ (let further = sum-part f m n (omega arith) in omega arith)
-  | inr most ↦ (let same : m ≡ suc n = omega arith in subst (λ k. sum_below f k ≤ sum_below f n + f n) (sym same) (omega arith))
-]
-
 module _ (whole : List Child) (nibble : ℕ) (rest : List Child) (kids : List (Option Digest)) (kept usage : ℕ) (old new : Ledger) (so_far : IsNaming whole nibble rest kids kept usage old new) (small : nibble < 16) (sixteen : length whole ≡ 16) where
   pub naming-some : 0 < length rest
   naming-some = let long = ap length so_far.left in let left = length-drop nibble whole in omega arith
@@ -175,7 +143,7 @@ module _ (whole : List Child) (nibble : ℕ) (rest : List Child) (kids : List (O
 
   pub naming-adds : (ref : Option ValueRef) → CanFork ref (kid_at whole) kept → usage + kid_usage (kid_at rest 0) < 2 ^ 64
   naming-adds ref can =
-      let part = sum-part (λ x. kid_usage (kid_at whole x)) (nibble + 1) 16 (omega arith) in
+      let part = sum_below-part (λ x. kid_usage (kid_at whole x)) (nibble + 1) 16 (omega arith) in
       let next = sum_below-more (λ x. kid_usage (kid_at whole x)) nibble in
       let same = ap kid_usage naming-next in
       let used = so_far.used in
@@ -203,24 +171,9 @@ module _ (whole : List Child) (nibble : ℕ) (rest : List Child) (kids : List (O
 
 -- ---- the record of the branch
 
-children-agree : (kids others : ℕ → Option (List ℕ)) → ((x : ℕ) → x < 16 → kids x ≡ others x) → spelled_children kids ≡ spelled_children others
-unfolding spelled_children
-children-agree kids others same =
-    ap₂ (λ (bits : ℕ) (digests : List ℕ). borsh_u16 bits ++ digests)
-    (sum_below-agree (child_bit kids) (child_bit others) 16 (λ x h. ap (λ (c : Option (List ℕ)). if is_some c then 2 ^ x else 0) (same x h)))
-    (joined_below-agree (λ x. child_digest (kids x)) (λ x. child_digest (others x)) 16 (λ x h. ap child_digest (same x h)))
-
-pub spelled-agree : (ref : Option ValueRef) (kids others : ℕ → Option (List ℕ)) (used : ℕ) → ((x : ℕ) → x < 16 → kids x ≡ others x) → spelled (node.branch ref kids) used ≡ spelled (node.branch ref others) used
-unfolding spelled
-spelled-agree None kids others used same = ap (λ (bytes : List ℕ). 1 ∷ bytes ++ borsh_u64 used) (children-agree kids others same)
-spelled-agree (Some ref) kids others used same = ap (λ (bytes : List ℕ). 2 ∷ spelled_value ref ++ bytes ++ borsh_u64 used) (children-agree kids others same)
-
-count-agree : (kids others : ℕ → Option (List ℕ)) → ((x : ℕ) → x < 16 → kids x ≡ others x) → child_count kids ≡ child_count others
-count-agree kids others same = sum_below-agree (λ x. if is_some (kids x) then 1 else 0) (λ x. if is_some (others x) then 1 else 0) 16 (λ x h. ap (λ (c : Option (List ℕ)). if is_some c then 1 else 0) (same x h))
-
 shaped-agree : (ref : Option ValueRef) (kids others : ℕ → Option (List ℕ)) → ((x : ℕ) → x < 16 → kids x ≡ others x) → IsShaped (node.branch ref others) → IsShaped (node.branch ref kids)
-shaped-agree None kids others same h = let count = count-agree kids others same in omega arith
-shaped-agree (Some ref) kids others same h = (h.0, let count = count-agree kids others same in let some = h.1 in omega arith)
+shaped-agree None kids others same h = let count = child_count-same kids others same in omega arith
+shaped-agree (Some ref) kids others same h = (h.0, let count = child_count-same kids others same in let some = h.1 in omega arith)
 
 own-branch : (ref : Option ValueRef) (kids : ℕ → Option (List ℕ)) → own_cost (node.branch ref kids) ≡ branch_cost ref
 unfolding own_cost
@@ -246,7 +199,7 @@ module _ (ref : Option ValueRef) (whole : List Child) (nibble : ℕ) (rest : Lis
   end-text : (closed : Closed) → IsRecord closed (node.branch ref (children_in kids)) (own_cost (node.branch ref (children_in kids)) + usage) → closed.text ≡ branch_text ref (kid_at whole) kept
   end-text closed is =
       is.text ∙ ap (λ n. spelled (node.branch ref (children_in kids)) n) end-cost
-      ∙ spelled-agree ref (children_in kids) (λ x. kid_name (kid_at whole x)) (branch_used ref (kid_at whole) kept) all_names
+      ∙ spelled_branch-agree ref (children_in kids) (λ x. kid_name (kid_at whole x)) (branch_used ref (kid_at whole) kept) all_names
 
   pub end-top : (closed : Closed) → IsRecord closed (node.branch ref (children_in kids)) (own_cost (node.branch ref (children_in kids)) + usage) → branch closed.digest.0 closed.usage ≡ (branched ref (kid_at whole) kept).top
   end-top closed is = ap₂ branch (is.digest ∙ ap sha256 (end-text closed is)) (is.usage ∙ end-cost)

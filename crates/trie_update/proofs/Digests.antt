@@ -10,7 +10,8 @@ use Rattle.visit_model.specs.Seen as seen
 use Rattle.visit_model.specs.Seen.{Seen, seen_at, seen_child, stated_usage}
 use Rattle.batch_model.specs.Changes.{Change}
 use Rattle.change_model.specs.Along.{digest_of}
-use Rattle.change_model.specs.Visits.{Visits, before, opened, closed, changes_behind, if_touched, is_left, visits_at, most_usage, leaf_cost, extension_cost}
+use Rattle.change_model.specs.Visits.{Visits, before, opened, closed, changes_behind, is_left, visits_at, most_usage, leaf_cost, extension_cost}
+use Rattle.change_model.proofs.Seeing.{digest_of-seen_at}
 use Rattle.base_core.specs.Faults as ended
 use Rattle.base_core.specs.declared.hash.Digest.{Digest}
 use Rattle.node_codec.specs.declared.node.Node as node
@@ -23,11 +24,10 @@ use Rattle.update_model.specs.Joins.{known, is_there}
 use Rattle.update_model.specs.Sound.{AreBelow, StandsAt}
 use Rattle.update_model.specs.Tops.{Top, leaf, branch, extension, lowered, top_usage}
 use Rattle.update_model.specs.Updates.{Outcome, branch_outcome, digest_or_none, laid, losing, no_branch, updated}
-use Rattle.update_model.proofs.Behind.{below-depth}
 use Rattle.update_model.proofs.LaidSteps.{laid-agree}
 use Rattle.update_model.proofs.StandsAfter.{laid-stands}
 use Rattle.update_model.proofs.Unrefused.{IsDone, leaf-done, extension-done}
-use Rattle.update_model.proofs.UsagesAfter.{grown-branch, if_reached, laid-grows, reached}
+use Rattle.update_model.proofs.UsagesAfter.{grown-branch, laid-grows, reached, reached-extension}
 use Rattle.update_model.proofs.WhatIsLeft.{laid-left, left-absorbs, left-some, left_of}
 use Rattle.trie_update.specs.declared.errors.UpdateError.{UpdateError}
 use Rattle.trie_update.specs.declared.errors.UpdateError.TheVariants.{NoMemory}
@@ -38,29 +38,17 @@ use Rattle.trie_update.specs.declared.updating.Placed.{Placed}
 use Rattle.trie_update.specs.declared.visiting.Visited.{Visited}
 use Rattle.trie_update.specs.Accounts.{CanCount, IsNamed, Loses}
 use Rattle.trie_update.specs.Carries.{Carries}
-use Rattle.trie_update.specs.ChangesAt.{AreChangesAt, Lent, changes_at}
 use Rattle.trie_update.specs.Places.{FitsTop, Keeps, MostTop, TopKeeps, old_past, seen_past, top_stated, top_visits}
 use Rattle.trie_update.specs.Placed.{IsPlaced, branch_inside, run_at}
 use Rattle.trie_update.proofs.Adding.{adds-lost, adds-same, adds-then}
-use Rattle.trie_update.proofs.AloneVisits.{name-seen_at}
 use Rattle.trie_update.proofs.Carrying.{carries-opened, carries-short, carries-then, opens-changed}
 use Rattle.trie_update.proofs.OneNibble.{none-before}
 use Rattle.trie_update.proofs.SeenVisits.{SeesCopy, SeesLeaf, SeesExtension, SeesBranch}
-use Rattle.trie_update.proofs.Below.{below-changes_at}
+use Rattle.trie_update.proofs.AloneVisits.{some_path}
 
 -- ---- the changes of a call
 
-pub lent-some : (depth : ℕ) (changes : List Lent) → 1 ≤ length changes → changes_at depth changes ≢ []
-lent-some depth [] some = absurd (omega arith)
-lent-some depth (change ∷ changes) some = λ e. cc
-
-pub lent-deep : (depth : ℕ) (changes : List Lent) → AreChangesAt depth changes → 1 ≤ length changes → depth ≤ longest_path
-lent-deep depth changes are some = below-depth depth (changes_at depth changes) (lent-some depth changes some) (below-changes_at depth changes are)
-
 -- ---- the top that was read
-
-some_path : (path : List ℕ) → 0 < length path → path ≢ []
-some_path path some none = let long = ap length none in absurd (omega arith)
 
 lowered-some : (path digest : List ℕ) (used : ℕ) → 0 < length path → lowered path (branch digest used) ≡ extension path digest used
 unfolding lowered
@@ -70,14 +58,6 @@ lowered-some (x ∷ path) digest used some = refl
 named-seen : (s : Seen) (digest : List ℕ) → digest_of s ≡ Some digest → s ≢ seen.nothing
 unfolding digest_of
 named-seen s digest named none = let other = sym named ∙ ap digest_of none in cc
-
-reached-small : (path digest : List ℕ) (usage stated : ℕ) (changes : List Change) → extension_cost path + if_touched (changes_behind path changes) stated ≤ usage → reached stated (extension path digest (usage - extension_cost path)) changes ≤ usage
-unfolding reached
-reached-small path digest usage stated changes least = go (changes_behind path changes) least
-  where
-    go : (cs : List Change) → extension_cost path + if_touched cs stated ≤ usage → extension_cost path + if_reached cs stated (usage - extension_cost path) ≤ usage
-    go [] h = omega arith
-    go (change ∷ cs) h = h
 
 -- A leaf or an extension that is seen: its record was read, and the rest is what its top is.
 pub record ReadsTop (depth stated own : ℕ) (digest : List ℕ) (s below : Seen) (top : Top) : Type 0 where
@@ -133,7 +113,7 @@ extension-reads depth stated digest path name child most nibbles long room named
                 let same = ap top_usage top_is in
                 let laid_over = laid-grows (stated_usage child) (λ rs. updated child rs) depth old cs stands are some
                 (λ more. grown-branch (stated_usage child) (depth + length path) name used (changes_behind path cs) (updated child (changes_behind path cs)) more (keeps more).grows) in
-                let all = reached-small path name stated (stated_usage child) cs least in
+                let all = reached-extension path name stated (stated_usage child) cs least in
                 omega arith;
             most = most;
           };
@@ -165,7 +145,7 @@ module _ (table : Table) (depth : ℕ) (after_extension : Bool) (digest : Digest
   unfolding seen_past old_past
   reads-extension path text child used e u sees =
       let below : Seen = seen_at table (depth + length text) true child.0 in
-      let both = extension-reads depth visited.stated digest.0 text child.0 below sees.most sees.nibbles sees.some sees.room (name-seen_at table (depth + length text) true child.0) in
+      let both = extension-reads depth visited.stated digest.0 text child.0 below sees.most sees.nibbles sees.some sees.room (digest_of-seen_at table (depth + length text) true child.0) in
       let at_own = subst (λ n. ReadsTop depth visited.stated n digest.0 (seen.extension digest.0 visited.stated text below) below (extension text child.0 (visited.stated - n))) (sym sees.own) both in
       let at_seen = subst (λ (s : Seen). ReadsTop depth visited.stated visited.own digest.0 s below (extension text child.0 (visited.stated - visited.own))) (sym sees.seen) at_own in
       let at_used = subst (λ n. ReadsTop depth visited.stated visited.own digest.0 seen_here below (extension text child.0 n)) (sym u) at_seen in

@@ -2,7 +2,6 @@
 use Rattle.std.proofs.Common.{◌≡◌, ◌≢◌, ℕ, zero, suc, ◌+◌, ◌*◌, ◌^◌, ◌<◌, ◌≤◌, ◌==◌, Bool, true, false, if◌then◌else◌, List, [], ◌∷◌, ◌++◌, length, map, None, Result, Ok, Err, refl, sym, ap, subst, ◌∙◌, arith}
 use Rattle.std.specs.Prelude.{nat_eq, IfOk, OnOk}
 use Rattle.std.specs.List.{AllByRecursion}
-use Rattle.std.proofs.lemmas.List.{length-map}
 use Rattle.std.specs.Cmp.Lexicographic.{pointwise}
 use Rattle.sha2.specs.Sha256.{sha256}
 use Rattle.trie_model.specs.Root.{Table, zero_digest}
@@ -16,10 +15,10 @@ use Rattle.update_model.specs.Updates.{Outcome, laid, no_branch, updated}
 use Rattle.update_model.proofs.LaidOver.{keeps-empty, laid_over-stands, laid_over-small}
 use Rattle.update_model.proofs.LaidSteps.{laid-agree}
 use Rattle.update_model.proofs.Limits.{usage-small}
-use Rattle.update_model.proofs.Usages.{growth}
+use Rattle.update_model.specs.Growth.{growth}
 use Rattle.base_core.specs.declared.hash.Digest.{Digest}
 use Rattle.trie_update.specs.Adds.{Adds}
-use Rattle.trie_update.specs.ChangesAt.{Lent, AreChangesAt, change_at, changes_at}
+use Rattle.trie_update.specs.ChangesAt.{Lent, AreChangesAt, changes_at}
 use Rattle.trie_update.specs.Placed.{IsPlaced}
 use Rattle.trie_update.specs.Places.{Keeps, old_past, seen_past, top_visits}
 use Rattle.trie_update.specs.Sorted.{CanFinish, IsRooted, OnlyClash}
@@ -33,6 +32,7 @@ use Rattle.trie_update.specs.declared.old.Old.TheVariants.{Nothing}
 use Rattle.trie_update.specs.declared.updating.Placed.{Placed}
 use Rattle.trie_update.proofs.StateAnswers.{digest-of_gained}
 use Rattle.trie_update.proofs.Below.{below-changes_at}
+use Rattle.trie_update.proofs.ChangesAt.{length-changes_at}
 
 -- ---- the root
 
@@ -54,9 +54,6 @@ some-at : (changes : List Lent) → 1 ≤ length changes → changes_at 0 change
 some-at [] some = absurd (omega arith)
 some-at (change ∷ changes) some = λ e. cc
 
-few-at : (depth : ℕ) (changes : List Lent) → length (changes_at depth changes) ≡ length changes
-few-at depth changes = length-map changes (change_at depth)
-
 -- ---- it has become what the model says
 
 module _ (table : Table) (root : Digest) (changes : List Lent) (are : AreChangesAt 0 changes) (some : 1 ≤ length changes) (few : length changes ≤ most_changes) where
@@ -64,7 +61,7 @@ module _ (table : Table) (root : Digest) (changes : List Lent) (are : AreChanges
   rows = changes_at 0 changes
 
   small_rows : length rows ≤ most_changes
-  small_rows = let same = few-at 0 changes in omega arith
+  small_rows = let same = length-changes_at 0 changes in omega arith
 
   pub rooted-zero : pointwise nat_eq root.0 zero_digest ≡ true → (old new : Ledger) (told n : ℕ) (result : Result Placed UpdateError)
       → IfOk result (IsPlaced (laid (λ cs. updated (seen_past table 0 0 Nothing) cs) (old_past 0 Nothing) rows) told n old new)

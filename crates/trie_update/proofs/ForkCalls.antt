@@ -1,22 +1,26 @@
 -- Where changes part from what stood before them: the places behind the nibbles, put together.
-use Rattle.std.proofs.Common.{◌≡◌, ◌≢◌, ℕ, zero, suc, ◌+◌, ◌^◌, ◌<◌, ◌≤◌, ◌==◌, if◌then◌else◌, Bool, true, false, List, [], ◌∷◌, ◌++◌, length, drop, Option, None, Some, option_map, refl, sym, ◌∙◌, ap, ap₂, subst, arith}
+use Rattle.std.proofs.Common.{◌≡◌, ◌≢◌, ℕ, ◌+◌, ◌^◌, ◌<◌, ◌≤◌, ◌==◌, if◌then◌else◌, Bool, true, false, List, [], ◌∷◌, ◌++◌, length, drop, Option, None, Some, option_map, refl, sym, ◌∙◌, ap, ap₂, subst, arith}
 use Rattle.std.proofs.lemmas.List.{length-drop}
+use Rattle.std.proofs.lemmas.Bool.{ne_eqb}
 use Rattle.byte_model.specs.Below.{sum_below, joined_below}
-use Rattle.byte_model.proofs.Below.{sum_below-agree, joined_below-agree}
+use Rattle.byte_model.proofs.Below.{sum_below-agree, joined_below-agree, sum_below-none}
 use Rattle.byte_model.specs.Node.{ValueRef}
 use Rattle.byte_model.proofs.Paths.{length-packed}
+use Rattle.byte_model.proofs.Lists.{some_items}
 use Rattle.trie_model.specs.Root.{Table}
 use Rattle.visit_model.specs.Seen as seen
 use Rattle.visit_model.specs.Seen.{Seen, stated_usage}
 use Rattle.batch_model.specs.Changes.{Change, most_changes}
-use Rattle.change_model.specs.Visits.{Visits, before, change_at, changes_behind, extension_cost, if_touched, most_usage, no_visits, visits_at, visits_below, where_touched}
+use Rattle.change_model.specs.Visits.{change_at, changes_behind, extension_cost, if_touched, most_usage, no_visits, visits_at, visits_below, where_touched}
+use Rattle.change_model.proofs.Along.{visits_below-agree}
+use Rattle.change_model.proofs.Alone.{none-behind}
 use Rattle.node_codec.specs.declared.value_ref.ValueRef as code
 use Rattle.node_codec.specs.Meanings.{value_of}
 use Rattle.update_model.specs.Sound.{AreBelow, StandsAt}
 use Rattle.update_model.specs.Tops.{Top, empty, leaf, branch, extension, lowered, ref_here, top_behind}
 use Rattle.update_model.specs.Joins.{Joint, Kid, known, joint, kid_usage}
 use Rattle.update_model.specs.Updates.{Outcome, appearing, behind_outcome, disappearing, fork_outcome, laid, parted, ref_after, updated, value_lost, value_made}
-use Rattle.update_model.proofs.Behind.{below-nibble, none-behind, test_apart, test_same}
+use Rattle.update_model.proofs.Behind.{below-nibble, test_same}
 use Rattle.update_model.proofs.JointsAlike.{joint-agree}
 use Rattle.update_model.proofs.LaidKeeps.{OfChild, of_child-behind}
 use Rattle.update_model.proofs.LaidSteps.{changes_behind-append, changes_behind-nil, laid-agree}
@@ -37,8 +41,7 @@ use Rattle.trie_update.specs.Placed.{IsParted, IsPlaced, run_at}
 use Rattle.trie_update.specs.Subs.{CanJoin, kid_at, top_of_sub}
 use Rattle.trie_update.proofs.Adding.{adds-same, adds-then}
 use Rattle.trie_update.proofs.Lones.{can-join-agree}
-use Rattle.trie_update.proofs.OneNibble.{sum_below-none, sum_below-one, visits_below-none, visits_below-one}
-use Rattle.trie_update.proofs.Lowering.{some_change}
+use Rattle.trie_update.proofs.OneNibble.{sum_below-one, visits_below-none, visits_below-one}
 
 -- ---- the value that stood there
 
@@ -56,7 +59,7 @@ former-past count (Leaf path value) h = go (drop count path.now) refl
     go (x ∷ r) more =
         let left = length-drop count path.now in
         let other : length path.now ≢ count = (let l = ap length more in omega arith) in
-        ap (λ (b : Bool). option_map value_of (if b then Some value else None)) (test_apart (length path.now) count other)
+        ap (λ (b : Bool). option_map value_of (if b then Some value else None)) (ne_eqb (length path.now) count other)
 former-past count (Extension path child used) h = go (drop count path.now)
   where
     go : (r : List ℕ) → None ≡ ref_here (lowered r (branch child.0 used))
@@ -68,8 +71,8 @@ former-past count (Extension path child used) h = go (drop count path.now)
 pub over-outcome : (below : Seen) (top : Top) (changes : List Change) → place_outcome (over (only_before top below) top) changes ≡ behind_outcome (laid (λ cs. updated below cs)) top changes
 unfolding place_outcome
 over-outcome below top [] = refl
-over-outcome below empty (change ∷ changes) = laid-agree (λ cs. updated seen.nothing cs) (λ cs. updated below cs) empty (change ∷ changes) (some_change change changes) tt
-over-outcome below (leaf path ref) (change ∷ changes) = laid-agree (λ cs. updated seen.nothing cs) (λ cs. updated below cs) (leaf path ref) (change ∷ changes) (some_change change changes) tt
+over-outcome below empty (change ∷ changes) = laid-agree (λ cs. updated seen.nothing cs) (λ cs. updated below cs) empty (change ∷ changes) (some_items change changes) tt
+over-outcome below (leaf path ref) (change ∷ changes) = laid-agree (λ cs. updated seen.nothing cs) (λ cs. updated below cs) (leaf path ref) (change ∷ changes) (some_items change changes) tt
 over-outcome below (branch digest used) (change ∷ changes) = refl
 over-outcome below (extension path digest used) (change ∷ changes) = refl
 
@@ -155,7 +158,7 @@ module _ (below : Seen) (changes : List Change) where
   fork-visits depth (extension [] digest used) over_it stands = absurd (stands.2 refl)
   fork-visits depth (extension (y ∷ path) digest used) over_it stands =
       visits_below-one (λ x. top_visits below (top_behind x (extension (y ∷ path) digest used)) (run_at changes x)) y 16 stands.0.0
-      (λ x other. ap (λ (b : Bool). top_visits below (if b then lowered path (branch digest used) else empty) (run_at changes x)) (test_apart x y other))
+      (λ x other. ap (λ (b : Bool). top_visits below (if b then lowered path (branch digest used) else empty) (run_at changes x)) (ne_eqb x y other))
       ∙ ap (λ (b : Bool). top_visits below (if b then lowered path (branch digest used) else empty) (run_at changes y)) (test_same y)
       ∙ reached_visits path digest used (run_at changes y)
       ∙ ap (λ (ds : List Change). where_touched ds (visits_at below ds)) (sym (changes_behind-append (y ∷ []) path changes))
@@ -168,7 +171,7 @@ module _ (below : Seen) (changes : List Change) where
   fork-stated depth (extension [] digest used) over_it stands = absurd (stands.2 refl)
   fork-stated depth (extension (y ∷ path) digest used) over_it stands =
       sum_below-one (λ x. top_stated below (top_behind x (extension (y ∷ path) digest used)) (run_at changes x)) y 16 stands.0.0
-      (λ x other. ap (λ (b : Bool). top_stated below (if b then lowered path (branch digest used) else empty) (run_at changes x)) (test_apart x y other))
+      (λ x other. ap (λ (b : Bool). top_stated below (if b then lowered path (branch digest used) else empty) (run_at changes x)) (ne_eqb x y other))
       ∙ ap (λ (b : Bool). top_stated below (if b then lowered path (branch digest used) else empty) (run_at changes y)) (test_same y)
       ∙ reached_stated path digest used (run_at changes y)
       ∙ ap (λ (ds : List Change). if_touched ds (stated_usage below)) (sym (changes_behind-append (y ∷ []) path changes))
@@ -189,11 +192,6 @@ module _ (below : Seen) (changes : List Change) where
       let far : depth + 1 + length (z ∷ path) ≡ depth + length (y ∷ z ∷ path) = omega arith in
       keeps-along (depth + 1 + length (z ∷ path)) (depth + length (y ∷ z ∷ path)) (changes_behind (z ∷ path) (run_at changes y)) (changes_behind (y ∷ z ∷ path) changes) far (sym (changes_behind-append (y ∷ []) (z ∷ path) changes)) here
 
-pub visits_below-agree : (f g : ℕ → Visits) (n : ℕ) → ((x : ℕ) → x < n → f x ≡ g x) → visits_below f n ≡ visits_below g n
-unfolding visits_below
-visits_below-agree f g zero same = refl
-visits_below-agree f g (suc n) same = ap₂ (λ (a b : Visits). before a b) (visits_below-agree f g n (λ x h. same x (omega arith))) (same n (omega arith))
-
 -- what is stated below it is no more than it may be
 pub stated-most : (depth : ℕ) (below : Seen) (top : Top) (changes : List Change) → TopKeeps depth below top changes → top_stated below top changes ≤ most_usage
 unfolding TopKeeps top_stated
@@ -203,12 +201,12 @@ stated-most depth below (branch digest used) changes h = go changes h
   where
     go : (cs : List Change) → (cs ≢ [] → Keeps depth below cs) → if_touched cs (stated_usage below) ≤ most_usage
     go [] k = omega arith
-    go (c ∷ cs) k = (k (some_change c cs)).most
+    go (c ∷ cs) k = (k (some_items c cs)).most
 stated-most depth below (extension path digest used) changes h = go (changes_behind path changes) h
   where
     go : (cs : List Change) → (cs ≢ [] → Keeps (depth + length path) below cs) → if_touched cs (stated_usage below) ≤ most_usage
     go [] k = omega arith
-    go (c ∷ cs) k = (k (some_change c cs)).most
+    go (c ∷ cs) k = (k (some_items c cs)).most
 
 -- ---- what they join to
 
@@ -233,7 +231,7 @@ reached-most depth below (extension path digest used) changes over_it stands mos
   where
     go : (cs : List Change) → (cs ≢ [] → Keeps (depth + length path) below cs) → extension_cost path ≤ 2 ^ 13 → extension_cost path + if_reached cs (stated_usage below) used ≤ most_before
     go [] k cost = omega arith
-    go (c ∷ cs) k cost = let told = (k (some_change c cs)).most in omega arith
+    go (c ∷ cs) k cost = let told = (k (some_items c cs)).most in omega arith
 
 module _ (depth : ℕ) (below : Seen) (top : Top) (changes : List Change) (over_it : NoBranch top) (fits : FitsTop depth top) (below_it : AreBelow depth changes) (some : changes ≢ []) (few : length changes ≤ most_changes) (keeps : TopKeeps depth below top changes) where
   abbrev child : List Change → Outcome
@@ -263,7 +261,7 @@ module _ (depth : ℕ) (below : Seen) (top : Top) (changes : List Change) (over_
       go [] e = stands-top_behind x depth top over_it fits.stands
       go (c ∷ cs) e =
           subst (λ (ds : List Change). StandsAt (depth + 1) (laid child (top_behind x top) ds).top) e
-          (laid-stands child (depth + 1) (top_behind x top) (run_at changes x) (stands-top_behind x depth top over_it fits.stands) (below-nibble x depth changes below_it) (subst (λ (ds : List Change). ds ≢ []) (sym e) (some_change c cs))
+          (laid-stands child (depth + 1) (top_behind x top) (run_at changes x) (stands-top_behind x depth top over_it fits.stands) (below-nibble x depth changes below_it) (subst (λ (ds : List Change). ds ≢ []) (sym e) (some_items c cs))
           (of_child-behind TopStands child x depth top changes over_it fits.stands (of_stands depth top changes keeps)))
 
   behind_grows : (x : ℕ) → x < 16 → run_at changes x ≢ [] → Grows (stated_usage below) (depth + 1) (top_behind x top) (run_at changes x) (laid child (top_behind x top) (run_at changes x))

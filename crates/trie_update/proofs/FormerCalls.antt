@@ -1,5 +1,5 @@
 -- What has become of what stood behind a nibble, by the call that was made there.
-use Rattle.std.proofs.Common.{◌≡◌, ◌≢◌, ℕ, ◌≤◌, ◌==◌, true, false, List, [], ◌∷◌, length, Result, refl, sym, ◌∙◌, ap, subst, arith}
+use Rattle.std.proofs.Common.{◌≡◌, ℕ, ◌≤◌, ◌==◌, true, false, List, [], ◌∷◌, length, Result, refl, sym, ◌∙◌, ap, subst, arith}
 use Rattle.trie_model.proofs.Rests.{equal_of_test}
 use Rattle.trie_model.specs.Root.{Table}
 use Rattle.visit_model.specs.Seen.{seen_at, stated_usage}
@@ -25,6 +25,7 @@ use Rattle.trie_update.specs.Placed.{IsChild, IsPlaced, kid_before}
 use Rattle.trie_update.specs.Subs.{kid_of}
 use Rattle.trie_update.proofs.Adding.{adds-none, adds-same}
 use Rattle.trie_update.proofs.PlaceFacts.{IsTouched, touched-child, touched-over, untouched-adds, untouched-keeps, untouched-kid, untouched-stated}
+use Rattle.trie_update.proofs.ChangesAt.{changes-some}
 
 pub empty-changes : {X : Type 0} (xs : List X) → true ≡ (length xs == 0) → xs ≡ []
 empty-changes [] e = refl
@@ -49,10 +50,6 @@ child-untouched table depth stood changes ledger new none is =
     })
 
 -- ---- where some are
-
-pub changes-some : (depth : ℕ) (changes : List Lent) → 1 ≤ length changes → changes_at depth changes ≢ []
-changes-some depth [] some = absurd (omega arith)
-changes-some depth (change ∷ changes) some = λ e. cc
 
 module _ (depth : ℕ) (p : Place) (changes : List Change) (n : ℕ) (visits : Visits) (stated : ℕ) (outcome : Outcome) (touched : IsTouched p changes visits stated outcome) (long : length changes ≡ n) where
   pub child-placed : (old new : Ledger) (placed : Placed) → IsPlaced outcome stated n old new placed → PlaceKeeps depth p changes → IsChild depth p changes old new (child.Known placed.sub, placed.stated)

@@ -11,7 +11,7 @@ use Rattle.trie_update.specs.declared.ledger.Ledger.{Ledger}
 use Rattle.trie_update.specs.Accounts.{Gains, Loses, Grows, GrowsBy, IsNamed, CanCount, appearing, disappearing}
 
 -- lists that grow at their ends, one after the other
-append-append : {X : Type 0} (old mid new xs ys : List X) → mid ≡ old ++ xs → new ≡ mid ++ ys → new ≡ old ++ (xs ++ ys)
+pub append-append : {X : Type 0} (old mid new xs ys : List X) → mid ≡ old ++ xs → new ≡ mid ++ ys → new ≡ old ++ (xs ++ ys)
 append-append old mid new xs ys first last = last ∙ ap (λ (l : List _). l ++ ys) first ∙ append_assoc old xs ys
 
 -- nothing happened

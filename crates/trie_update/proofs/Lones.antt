@@ -14,10 +14,10 @@ use Rattle.update_model.proofs.Behind.{test_same}
 use Rattle.trie_update.specs.declared.joining.Child.{Child}
 use Rattle.trie_update.specs.Merges.{IsFound, if_named, lone_among, lone_named, seen_kid, seen_kids, MergedStands}
 use Rattle.trie_update.specs.Subs.{kid_at, kid_of, CanJoin, IsKnown, KidStands}
-use Rattle.trie_update.proofs.Children.{lone-number}
 use Rattle.update_model.specs.Sound.{StandsAt}
 use Rattle.byte_model.proofs.Below.{sum_below-agree}
 use Rattle.change_model.proofs.Along.{numbers_below-agree}
+use Rattle.update_model.proofs.Joined.{only-holds}
 
 -- ---- as it is found
 
@@ -54,7 +54,7 @@ module _ {X : Type 0} (f : X → ValueRef) (o : Option X) (kids : ℕ → Kid) (
       go (x ∷ y ∷ ns) e two = lone_is (x ∷ y ∷ ns) e
 
   pub lone-found : (x : ℕ) (digest : Digest) → there kids ≡ x ∷ [] → kids x ≡ named digest.0 → IsFound (option_map f o) kids x digest
-  lone-found x digest e name = record { lone = lone-one x e ∙ ap (if_named x) name; name = name; small = (lone-number (λ y. is_there (kids y)) 16 x e).0 }
+  lone-found x digest e name = record { lone = lone-one x e ∙ ap (if_named x) name; name = name; small = (only-holds (λ y. is_there (kids y)) 16 x e).0 }
 
   pub lone-known : (x : ℕ) (top : Top) → there kids ≡ x ∷ [] → kids x ≡ known top → lone_named (option_map f o) kids ≡ None
   lone-known x top e is = lone-one x e ∙ ap (if_named x) is
@@ -120,6 +120,6 @@ can-join-agree ref kids others used same can = record {
   value = can.value;
   lone = λ x none one.
       let alike = numbers_below-agree (λ y. is_there (kids y)) (λ y. is_there (others y)) 16 (λ y small. ap is_there (same y small)) in
-      let small = (lone-number (λ y. is_there (kids y)) 16 x one).0 in
+      let small = (only-holds (λ y. is_there (kids y)) 16 x one).0 in
       subst IsKnown (sym (same x small)) (can.lone x none (sym alike ∙ one));
 }

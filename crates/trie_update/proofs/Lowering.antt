@@ -1,12 +1,14 @@
 -- Changes that all begin with the same nibbles, as what stood before them does: what is laid is laid behind these nibbles, and goes below them.
-use Rattle.std.proofs.Common.{◌≡◌, ◌≢◌, ℕ, zero, suc, ◌+◌, ◌<◌, ◌==◌, if◌then◌else◌, Bool, true, false, List, [], ◌∷◌, ◌++◌, Option, None, inl, inr, refl, sym, ◌∙◌, ap, ap₂, subst, arith}
+use Rattle.std.proofs.Common.{◌≡◌, ◌≢◌, ℕ, ◌+◌, ◌<◌, ◌==◌, if◌then◌else◌, Bool, true, false, List, [], ◌∷◌, ◌++◌, Option, None, refl, sym, ◌∙◌, ap, ap₂, subst, arith}
 use Rattle.std.specs.Prelude.{⊤}
-use Rattle.std.proofs.lemmas.Bool.{cases_lt, false≢true}
+use Rattle.std.proofs.lemmas.Bool.{false≢true, ne_eqb}
 use mathlib.Core.Path.{fun_ext}
 use Rattle.std.proofs.lemmas.List.{append-nil}
 use Rattle.byte_model.specs.Below.{sum_below, joined_below}
 use Rattle.byte_model.specs.Nibbles.{AreNibbles}
 use Rattle.byte_model.specs.Node.{ValueRef}
+use Rattle.byte_model.proofs.Lists.{some_items}
+use Rattle.byte_model.proofs.Below.{joined_below-only}
 use Rattle.trie_model.specs.Tree.{rest_behind}
 use Rattle.trie_model.proofs.Rests.{equal_of_test}
 use Rattle.batch_model.specs.Changes.{Change}
@@ -14,7 +16,7 @@ use Rattle.change_model.specs.Visits.{changes_behind, change_at}
 use Rattle.update_model.specs.Tops.{Top, empty, leaf, branch, extension, lowered, top_behind, ref_here}
 use Rattle.update_model.specs.Joins.{Kid, known, is_there, there, kid_top, Joint, without_texts, joint_by, joint}
 use Rattle.update_model.specs.Updates.{Outcome, unchanged, node_outcome, behind_outcome, parted, fork_outcome, laid, ref_after}
-use Rattle.update_model.proofs.Behind.{GoOn, none-ends, test_same, test_apart}
+use Rattle.update_model.proofs.Behind.{GoOn, none-ends, test_same}
 use Rattle.update_model.proofs.LaidSteps.{laid-step, changes_behind-nil, changes_behind-append}
 use Rattle.update_model.proofs.Joints.{no_numbers, only_number}
 use Rattle.trie_update.specs.ChangesAt.{AllBegin}
@@ -64,9 +66,9 @@ behind-lowered x p (extension path digest used) proper = ap (λ (b : Bool). if b
 apart-lowered : (x y : ℕ) (p : List ℕ) (base : Top) → y ≢ x → top_behind y (lowered (x ∷ p) base) ≡ empty
 unfolding lowered top_behind
 apart-lowered x y p empty other = refl
-apart-lowered x y p (leaf path ref) other = ap (λ (b : Bool). if b then leaf (p ++ path) ref else empty) (test_apart y x other)
-apart-lowered x y p (branch digest used) other = ap (λ (b : Bool). if b then lowered p (branch digest used) else empty) (test_apart y x other)
-apart-lowered x y p (extension path digest used) other = ap (λ (b : Bool). if b then lowered (p ++ path) (branch digest used) else empty) (test_apart y x other)
+apart-lowered x y p (leaf path ref) other = ap (λ (b : Bool). if b then leaf (p ++ path) ref else empty) (ne_eqb y x other)
+apart-lowered x y p (branch digest used) other = ap (λ (b : Bool). if b then lowered p (branch digest used) else empty) (ne_eqb y x other)
+apart-lowered x y p (extension path digest used) other = ap (λ (b : Bool). if b then lowered (p ++ path) (branch digest used) else empty) (ne_eqb y x other)
 
 none-here : (x : ℕ) (p : List ℕ) (base : Top) → ref_here (lowered (x ∷ p) base) ≡ None
 unfolding lowered ref_here
@@ -86,13 +88,10 @@ first_nibble x y p path rest e = cc
 further_nibbles : (x y : ℕ) (p path rest : List ℕ) → y ∷ path ≡ (x ∷ p) ++ rest → path ≡ p ++ rest
 further_nibbles x y p path rest e = cc
 
-some_path : (y : ℕ) (path : List ℕ) → y ∷ path ≢ []
-some_path y path e = cc
-
 go-on : (x : ℕ) (p : List ℕ) (changes : List Change) → AllBegin (x ∷ p) changes → GoOn changes
 go-on x p [] begin = tt
 go-on x p (([], value) ∷ changes) begin = absurd (nothing_before x p begin.0.0 begin.0.1)
-go-on x p ((y ∷ path, value) ∷ changes) begin = (some_path y path, go-on x p changes begin.1)
+go-on x p ((y ∷ path, value) ∷ changes) begin = (some_items y path, go-on x p changes begin.1)
 
 none-apart : (x y : ℕ) (p : List ℕ) (changes : List Change) → AllBegin (x ∷ p) changes → y ≢ x → changes_behind (y ∷ []) changes ≡ []
 unfolding changes_behind rest_behind
@@ -100,7 +99,7 @@ none-apart x y p [] begin other = refl
 none-apart x y p (([], value) ∷ changes) begin other = absurd (nothing_before x p begin.0.0 begin.0.1)
 none-apart x y p ((z ∷ path, value) ∷ changes) begin other =
     let same = first_nibble x z p path begin.0.0 begin.0.1 in
-    let apart : (y == z) ≡ false = ap (λ w. y == w) same ∙ test_apart y x other in
+    let apart : (y == z) ≡ false = ap (λ w. y == w) same ∙ ne_eqb y x other in
     rw apart (none-apart x y p changes begin.1 other)
 
 -- those behind the nibble begin with the others
@@ -112,44 +111,28 @@ begin-behind x p ((z ∷ path, value) ∷ changes) begin =
     let same : (x == z) ≡ true = ap (λ w. x == w) (first_nibble x z p path begin.0.0 begin.0.1) ∙ test_same x in
     rw same ((begin.0.0, further_nibbles x z p path begin.0.0 begin.0.1), begin-behind x p changes begin.1)
 
-pub some_change : (change : Change) (changes : List Change) → change ∷ changes ≢ []
-some_change change changes e = cc
-
 pub some-behind : (x : ℕ) (p : List ℕ) (changes : List Change) → AllBegin (x ∷ p) changes → changes ≢ [] → changes_behind (x ∷ []) changes ≢ []
 unfolding changes_behind rest_behind
 some-behind x p [] begin some = absurd (some refl)
 some-behind x p (([], value) ∷ changes) begin some = absurd (nothing_before x p begin.0.0 begin.0.1)
 some-behind x p ((z ∷ path, value) ∷ changes) begin some =
     let same : (x == z) ≡ true = ap (λ w. x == w) (first_nibble x z p path begin.0.0 begin.0.1) ∙ test_same x in
-    rw same (some_change (path, value) (changes_behind (x ∷ []) changes))
+    rw same (some_items (path, value) (changes_behind (x ∷ []) changes))
 
 -- ---- an outcome behind one nibble
 
 abbrev at_nibble : ℕ → Outcome → ℕ → Outcome
 at_nibble x outcome y = if y == x then outcome else unchanged empty
 
-joined-none : {X : Type 0} (f : ℕ → List X) (n : ℕ) → ((y : ℕ) → y < n → f y ≡ []) → joined_below f n ≡ []
-unfolding joined_below
-joined-none f zero h = refl
-joined-none {X} f (suc n) h = ap₂ (λ (a b : List X). a ++ b) (joined-none f n (λ y l. h y (omega arith))) (h n (omega arith))
-
-pub joined_below-one : {X : Type 0} (f : ℕ → List X) (x n : ℕ) → x < n → ((y : ℕ) → y ≢ x → f y ≡ []) → joined_below f n ≡ f x
-unfolding joined_below
-joined_below-one f x zero l h = absurd (omega arith)
-joined_below-one {X} f x (suc n) l h = elim (cases_lt x n) [
-  | inl less ↦ (let other : n ≢ x = omega arith in ap₂ (λ (a b : List X). a ++ b) (joined_below-one f x n less h) (h n other) ∙ append-nil (f x))
-  | inr least ↦ (let same : n ≡ x = omega arith in ap₂ (λ (a b : List X). a ++ b) (joined-none f n (λ y k. h y (let other : y ≢ x = omega arith in other))) (ap f same))
-]
-
 module _ (x : ℕ) (small : x < 16) (outcome : Outcome) where
   here : at_nibble x outcome x ≡ outcome
   here = ap (λ (b : Bool). if b then outcome else unchanged empty) (test_same x)
 
   elsewhere : (y : ℕ) → y ≢ x → at_nibble x outcome y ≡ unchanged empty
-  elsewhere y other = ap (λ (b : Bool). if b then outcome else unchanged empty) (test_apart y x other)
+  elsewhere y other = ap (λ (b : Bool). if b then outcome else unchanged empty) (ne_eqb y x other)
 
   joins : {X : Type 0} (f : Outcome → List X) → f (unchanged empty) ≡ [] → joined_below (λ y. f (at_nibble x outcome y)) 16 ≡ f outcome
-  joins f none = joined_below-one (λ y. f (at_nibble x outcome y)) x 16 small (λ y other. ap f (elsewhere y other) ∙ none) ∙ ap f here
+  joins f none = joined_below-only (λ y. f (at_nibble x outcome y)) x 16 small (λ y other. ap f (elsewhere y other) ∙ none) ∙ ap f here
 
   sums : (f : Outcome → ℕ) → f (unchanged empty) ≡ 0 → sum_below (λ y. f (at_nibble x outcome y)) 16 ≡ f outcome
   sums f none = sum_below-one (λ y. f (at_nibble x outcome y)) x 16 small (λ y other. ap f (elsewhere y other) ∙ none) ∙ ap f here

@@ -5,12 +5,12 @@ use Rattle.std.specs.FinMap.{get}
 use Rattle.byte_model.specs.Node.{Node, own_cost}
 use Rattle.byte_model.specs.Laws.{SameNode}
 use Rattle.byte_model.specs.Nibbles.{AreNibbles}
+use Rattle.record_model.specs.Fits.{fitting_node}
 use Rattle.trie_model.specs.Root.{Table}
 use Rattle.base_core.specs.Faults as ended
 use Rattle.base_core.specs.declared.hash.Digest.{Digest}
 use Rattle.change_model.specs.Visits.{most_usage}
 use Rattle.node_codec.specs.Meanings.{node_of, path_of}
-use Rattle.trie_shape.specs.Fitting.{fitting_node}
 use Rattle.text_store.specs.Store.{Store}
 use Rattle.text_store.specs.Leaves.{Leaves}
 use Rattle.text_store.proofs.Leaves.{Leaves-refused}

@@ -3,6 +3,7 @@ use Rattle.std.proofs.Common.{◌≡◌, ◌≢◌, ℕ, zero, suc, ◌<◌, Lis
 use Rattle.std.proofs.lemmas.Bool.{cases_lt}
 use Rattle.std.proofs.lemmas.List.{append-nil}
 use Rattle.byte_model.specs.Below.{sum_below}
+use Rattle.byte_model.proofs.Below.{sum_below-none}
 use Rattle.change_model.specs.Visits.{Visits, Refusal, no_visits, and_then, before, visits_below}
 use Rattle.trie_update.proofs.Carrying.{before-done, before-stopped}
 
@@ -37,11 +38,6 @@ visits_below-one f x (suc n) l h = elim (cases_lt x n) [
   | inr least ↦ (let same : n ≡ x = omega arith in
       ap₂ both (visits_below-none f n (λ y k. h y (let other : y ≢ x = omega arith in other))) (ap f same) ∙ none-before (f x))
 ]
-
-pub sum_below-none : (f : ℕ → ℕ) (n : ℕ) → ((y : ℕ) → y < n → f y ≡ 0) → sum_below f n ≡ 0
-unfolding sum_below
-sum_below-none f zero h = refl
-sum_below-none f (suc n) h = let before_it = sum_below-none f n (λ y l. h y (omega arith)) in let last = h n (omega arith) in omega arith
 
 pub sum_below-one : (f : ℕ → ℕ) (x n : ℕ) → x < n → ((y : ℕ) → y ≢ x → f y ≡ 0) → sum_below f n ≡ f x
 unfolding sum_below

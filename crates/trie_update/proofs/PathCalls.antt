@@ -4,6 +4,7 @@ use Rattle.std.specs.List.{cons_option}
 use Rattle.std.proofs.lemmas.List.{length-append, length-drop, length-take-le}
 use Rattle.byte_model.specs.Nibbles.{nibbles, AreNibbles}
 use Rattle.byte_model.proofs.Digits.{AreNibbles-rest}
+use Rattle.byte_model.proofs.Lists.{AllByRecursion-take, AllByRecursion-drop}
 use Rattle.trie_model.specs.Root.{Table}
 use Rattle.trie_model.specs.Tree.{rest_behind}
 use Rattle.trie_model.proofs.Rests.{equal_of_test, prefix_and_rest}
@@ -28,9 +29,7 @@ use Rattle.trie_update.specs.Placed.{IsPlaced}
 use Rattle.trie_update.specs.Subs.{top_of_sub}
 use Rattle.trie_update.proofs.Beginnings.{behind-changes}
 use Rattle.trie_update.proofs.Lowering.{IsProper, below_nibbles, laid-lowered}
-use Rattle.trie_update.proofs.Turning.{length-changes_at}
-use Rattle.trie_update.proofs.FormerCalls.{changes-some}
-use Rattle.trie_update.proofs.Below.{all-drop, all-take}
+use Rattle.trie_update.proofs.ChangesAt.{changes-some, length-changes_at}
 
 pub if_ok-both : {X E : Type 0} (r : Result X E) (P Q R : X → Type 0) → ((x : X) → P x → Q x → R x) → IfOk r P → IfOk r Q → IfOk r R
 if_ok-both (Ok x) P Q R both h k = both x h k
@@ -85,7 +84,7 @@ first-long depth count (change ∷ changes) d some h =
 
 first-nibbles : (depth count : ℕ) (changes : List Lent) (d : Lent) → 1 ≤ length changes → AreChangesAt (depth + count) changes → AreNibbles (first_nibbles depth count changes d)
 first-nibbles depth count [] d some h = absurd (omega arith)
-first-nibbles depth count (change ∷ changes) d some h = all-take (λ nibble. nibble < 16) count (drop depth (nibbles change.0.now)) (all-drop (λ nibble. nibble < 16) depth (nibbles change.0.now) h.each.0.nibbles)
+first-nibbles depth count (change ∷ changes) d some h = AllByRecursion-take (λ nibble. nibble < 16) count (drop depth (nibbles change.0.now)) (AllByRecursion-drop (λ nibble. nibble < 16) depth (nibbles change.0.now) h.each.0.nibbles)
 
 -- ---- what is shared
 

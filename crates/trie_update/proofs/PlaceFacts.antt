@@ -7,6 +7,8 @@ use Rattle.visit_model.specs.Seen as seen
 use Rattle.visit_model.specs.Seen.{Seen, seen_at, stated_usage}
 use Rattle.batch_model.specs.Changes.{Change}
 use Rattle.change_model.specs.Visits.{Visits, no_visits, visits_at}
+use Rattle.change_model.proofs.Seeing.{digest_of-seen_at}
+use Rattle.change_model.proofs.Alone.{none-behind}
 use Rattle.base_core.specs.declared.hash.Digest.{Digest}
 use Rattle.node_codec.specs.declared.value_ref.ValueRef as code
 use Rattle.node_codec.specs.Meanings.{value_of}
@@ -17,7 +19,7 @@ use Rattle.update_model.specs.Sound.{StandsAt}
 use Rattle.update_model.specs.Tops.{Top, empty, leaf, branch, extension, lowered, top_behind}
 use Rattle.update_model.specs.Joins.{known}
 use Rattle.update_model.specs.Updates.{Outcome, kid_kept, laid, updated}
-use Rattle.update_model.proofs.Behind.{none-behind, test_same}
+use Rattle.update_model.proofs.Behind.{test_same}
 use Rattle.update_model.proofs.TopsBelow.{stands-top_behind}
 use Rattle.trie_update.specs.declared.old.Old.{Old}
 use Rattle.trie_update.specs.declared.old.Old.TheVariants.{Nothing, Leaf, Extension}
@@ -27,7 +29,6 @@ use Rattle.trie_update.specs.Olds.{IsBehind, sub_of}
 use Rattle.trie_update.specs.Places.{Place, of_branch, over, FitsTop, MostTop, NoBranch, PlaceKeeps, TopKeeps, kid_place, old_past, only_before, over_behind, place_kid, place_of, place_outcome, place_stated, place_visits, seen_past, top_stated, top_visits}
 use Rattle.trie_update.specs.Placed.{kid_before}
 use Rattle.trie_update.specs.Subs.{top_of_sub}
-use Rattle.trie_update.proofs.AloneVisits.{name-seen_at}
 use Rattle.trie_update.proofs.Tops.{under-top}
 
 -- ---- a child of a branch
@@ -179,7 +180,7 @@ untouched-keeps depth (over below top) = top-untouched depth below top
 pub untouched-kid : (table : Table) (depth : ℕ) (stood : Former) → kid_before stood ≡ place_kid (place_of table depth stood) []
 unfolding place_kid place_of
 untouched-kid table depth (former.Known old) = refl
-untouched-kid table depth (former.Named digest) = sym (ap kid_kept (name-seen_at table depth false digest.0))
+untouched-kid table depth (former.Named digest) = sym (ap kid_kept (digest_of-seen_at table depth false digest.0))
 
 -- ---- where keys are changed
 

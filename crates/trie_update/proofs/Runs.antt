@@ -1,60 +1,23 @@
 -- Changes by rising paths: which of them ends here, and the runs of a first nibble.
 use Rattle.std.proofs.Common.{◌≡◌, ℕ, zero, suc, ◌<◌, ◌≤◌, ◌==◌, true, false, List, [], ◌∷◌, length, map, take, drop, Option, None, Some, if◌then◌else◌, refl, ap, arith}
-use Rattle.std.proofs.lemmas.Bool.Decides.{nat_tests}
 use Rattle.std.specs.List.{AllByRecursion}
-use Rattle.std.specs.List.Sorted.{IsStrictlySortedBy}
 use Rattle.byte_model.proofs.Lists.{AllByRecursion-weaker}
 use Rattle.trie_model.specs.Tree.{rest_behind}
 use Rattle.trie_model.proofs.Rests.{equal_of_test}
 use Rattle.trie_model.proofs.Order.{Before}
 use Rattle.trie_shape.specs.Runs.{StartsFrom}
-use Rattle.trie_shape.proofs.Runs.{starts_later}
+use Rattle.trie_shape.proofs.Runs.{starts_later, apart, apart', unequal, some_nibble}
 use Rattle.batch_model.specs.Changes.{Change, found_at}
 use Rattle.change_model.specs.Visits.{changes_behind}
-use Rattle.trie_update.specs.ChangesAt.{Rises, AllFrom, run_of}
-
-abbrev pub RisingChanges : List Change → Type 0
-RisingChanges [] = Unit {0}
-RisingChanges (change ∷ changes) = AllByRecursion (λ later. Before change.0 later.0) changes × RisingChanges changes
+use Rattle.update_model.proofs.Behind.{RisingChanges}
+use Rattle.trie_update.specs.ChangesAt.{AllFrom, run_of}
 
 abbrev pub tails : List Change → List Change
 tails changes = map (λ change. (drop 1 change.0, change.1)) changes
 
-apart : (x y : ℕ) → x < y → (x == y) ≡ false
-apart x y h = grind (arith, nat_tests)
-
-apart' : (x y : ℕ) → y < x → (x == y) ≡ false
-apart' x y h = grind (arith, nat_tests)
-
-unequal : (x y : ℕ) → (x == y) ≡ false → x ≤ y → x < y
-unequal x y t h = grind (arith, nat_tests)
-
 -- ---- changes in order, by recursion and by their paths
 
-all_changes : (p : List ℕ) (changes : List Change) → AllByRecursion (λ q. Before p q) (map (λ change. change.0) changes) → AllByRecursion (λ later. Before p later.0) changes
-all_changes p [] h = tt
-all_changes p (change ∷ changes) h = (h.0, all_changes p changes h.1)
-
-all_paths : (p : List ℕ) (changes : List Change) → AllByRecursion (λ later. Before p later.0) changes → AllByRecursion (λ q. Before p q) (map (λ change. change.0) changes)
-all_paths p [] h = tt
-all_paths p (change ∷ changes) h = (h.0, all_paths p changes h.1)
-
-pub rising : (changes : List Change) → Rises changes → RisingChanges changes
-unfolding IsStrictlySortedBy
-rising [] h = tt
-rising (change ∷ changes) h = (all_changes change.0 changes h.0, rising changes h.1)
-
-pub rises : (changes : List Change) → RisingChanges changes → Rises changes
-unfolding IsStrictlySortedBy
-rises [] h = tt
-rises (change ∷ changes) h = (all_paths change.0 changes h.0, rises changes h.1)
-
 -- ---- one path before another
-
-some_nibble : (p q : List ℕ) → Before p q → StartsFrom 0 q
-some_nibble [] [] h = cc
-some_nibble (x ∷ p) [] h = cc
-some_nibble p (y ∷ q) h = omega arith
 
 -- ---- the change that ends here
 
@@ -71,10 +34,6 @@ none-ends ((x ∷ path, value) ∷ changes) h = none-ends changes h.1
 pub ends-first : (value : Option (List ℕ)) (changes : List Change) → found_at [] (([], value) ∷ changes) ≡ Some value
 unfolding found_at
 ends-first value changes = refl
-
-pub below-first : (x : ℕ) (value : Option (List ℕ)) (changes : List Change) → changes_behind (x ∷ []) (([], value) ∷ changes) ≡ changes_behind (x ∷ []) changes
-unfolding changes_behind rest_behind
-below-first x value changes = refl
 
 -- ---- the run of changes that begin with a nibble
 

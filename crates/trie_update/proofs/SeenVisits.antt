@@ -2,7 +2,7 @@
 use Rattle.std.proofs.Common.{◌≡◌, ℕ, ◌+◌, ◌≤◌, ◌<◌, ◌&&◌, not, nat_lt, nat_le, Bool, true, false, List, length, Option, None, Some, Ok, option_map, refl, sym, ap, subst}
 use Rattle.std.specs.Prelude.{IfSome, IsSomeAnd}
 use Rattle.std.specs.FinMap.{get}
-use Rattle.std.proofs.lemmas.Bool.{and_parts}
+use Rattle.std.proofs.lemmas.Bool.{and_parts, not-true}
 use Rattle.byte_model.specs.Nibbles.{AreNibbles}
 use Rattle.byte_model.specs.PackedPath.{longest_path}
 use Rattle.byte_model.specs.Node as node
@@ -10,9 +10,11 @@ use Rattle.byte_model.specs.Node.{Node, ValueRef, own_cost, longest_value}
 use Rattle.byte_model.specs.Laws.{SameNode}
 use Rattle.record_model.specs.Records.{has_shape}
 use Rattle.record_model.specs.Fits.{fits_at, has_place, is_whole}
+use Rattle.record_model.proofs.Fitting.{fitting_node-fits}
 use Rattle.trie_model.specs.Root.{Table}
 use Rattle.visit_model.specs.Seen.{Seen, leaf, branch, extension, seen_at, seen_node, seen_child}
 use Rattle.visit_model.proofs.SeenBounds.{shape_fits, place_fits, branch_room, extension_room, extension_some}
+use Rattle.visit_model.proofs.SeenTexts.{seen-node}
 use Rattle.change_model.specs.Visits.{most_usage, leaf_cost, branch_cost, extension_cost}
 use Rattle.base_core.specs.declared.hash.Digest.{Digest}
 use Rattle.node_codec.specs.Meanings.{value_of, node_of, path_of, children_in}
@@ -20,8 +22,7 @@ use Rattle.node_codec.specs.declared.node.Node as code
 use Rattle.node_codec.specs.declared.node.Node.TheVariants.{Leaf, Branch, Extension}
 use Rattle.trie_update.specs.declared.visiting.Visited.{Visited}
 use Rattle.trie_update.specs.Visiting.{AnswersVisit, IsVisited}
-use Rattle.trie_update.proofs.Fitting.{fitting_node-fits, leaf_room, leaf_length, branch_length}
-use Rattle.trie_update.proofs.Seeing.{seen-node}
+use Rattle.trie_update.proofs.Fitting.{leaf_room, leaf_length, branch_length}
 
 -- ---- what fits
 
@@ -32,10 +33,6 @@ leaf_first depth after_extension path ref fits = (and_parts (is_whole (depth + l
 extension_first : (depth : ℕ) (after_extension : Bool) (path child : List ℕ) → has_place depth after_extension (node.extension path child) ≡ true → not after_extension ≡ true
 unfolding has_place
 extension_first depth after_extension path child fits = (and_parts (nat_lt (depth + length path) longest_path) (not after_extension) fits).1
-
-none_above : (after_extension : Bool) → not after_extension ≡ true → after_extension ≡ false
-none_above true h = sym h
-none_above false h = refl
 
 ref_small : (ref : Option ValueRef) (kids : ℕ → Option (List ℕ)) → has_shape (node.branch ref kids) ≡ true → IfSome ref (λ r. r.length ≤ longest_value)
 ref_small None kids shape = tt
@@ -93,7 +90,7 @@ module _ (table : Table) (depth : ℕ) (after_extension : Bool) (digest : Digest
           seen = seen_is (node.leaf path ref) h;
           own = h.own;
           most = h.most;
-          first = none_above after_extension (leaf_first depth after_extension path ref place);
+          first = not-true after_extension (leaf_first depth after_extension path ref place);
           nibbles = nibbles;
           room = leaf_room depth after_extension path ref place;
           small = leaf_length path ref (shape_fits depth after_extension (node.leaf path ref) fits);
@@ -108,7 +105,7 @@ module _ (table : Table) (depth : ℕ) (after_extension : Bool) (digest : Digest
           seen = seen_is (node.extension path child) h;
           own = h.own;
           most = h.most;
-          first = none_above after_extension (extension_first depth after_extension path child place);
+          first = not-true after_extension (extension_first depth after_extension path child place);
           nibbles = nibbles;
           some = extension_some path child (shape_fits depth after_extension (node.extension path child) fits);
           room = extension_room depth after_extension path child place;

@@ -1,8 +1,8 @@
 -- The code's subtrees in the words of the model.
-use Rattle.std.proofs.Common.{◌≡◌, ℕ, List, [], ◌∷◌, Option, None, Some, Result, Ok, IfSome, IfNone, refl, sym, ◌∙◌, ap, subst, arith}
+use Rattle.std.proofs.Common.{◌≡◌, ℕ, List, [], ◌∷◌, Option, None, Some, Result, Ok, IfSome, IfNone, refl, sym, ◌∙◌, ap, arith}
 use Rattle.sha2.specs.Sha256.{sha256}
 use Rattle.byte_model.specs.Node as node
-use Rattle.byte_model.specs.Node.{Node, IsShaped, own_cost}
+use Rattle.byte_model.specs.Node.{own_cost}
 use Rattle.node_codec.specs.Meanings.{value_of}
 use Rattle.update_model.specs.Sound.{StandsAt}
 use Rattle.update_model.specs.Tops.{lowered, pending, top_digest, top_usage}
@@ -11,7 +11,7 @@ use Rattle.trie_shape.specs.declared.closed.Closed.{Closed}
 use Rattle.trie_shape.specs.declared.sub.Sub.{Sub}
 use Rattle.trie_shape.specs.declared.sub.Sub.TheVariants.{Empty, Leaf, Branch, Extension}
 use Rattle.trie_shape.specs.Shows.{MayClose, IsRecord, top_node, usage_of, digest_of, under_of}
-use Rattle.trie_shape.proofs.Shows.{name-closed}
+use Rattle.trie_shape.proofs.Shows.{name-closed, no_node, one_node, not_absent}
 use Rattle.trie_update.specs.Subs.{top_of_sub}
 
 pub usage-top : (sub : Sub) → usage_of sub ≡ top_usage (top_of_sub sub)
@@ -41,12 +41,6 @@ under-top nibbles sub lower e = ap top_of_sub e ∙ under nibbles sub
 
 -- ---- its record
 
-no_node : (n : Node) → None ≡ Some n → IsShaped n
-no_node n e = cc
-
-one_node : (n other : Node) → IsShaped n → Some n ≡ Some other → IsShaped other
-one_node n other h e = let same : n ≡ other = cc in subst IsShaped same h
-
 pub may-close : (sub : Sub) → StandsAt 0 (top_of_sub sub) → MayClose sub
 unfolding StandsAt
 may-close Empty h = record { nibbles = tt; short = omega arith; shaped = no_node }
@@ -63,9 +57,6 @@ pub record IsPending (sub : Sub) (closed : Closed) : Type 0 where
   pub used : closed.usage ≡ top_usage (top_of_sub sub)
   pub text : pending (top_of_sub sub) ≡ closed.text ∷ []
   pub digest : closed.digest.0 ≡ sha256 closed.text
-
-not_absent : (closed : Closed) → IsAbsent closed → ⊥
-not_absent closed absent = cc
 
 pub closed-pending : (sub : Sub) (closed : Closed) → IfNone (top_node sub) (IsAbsent closed) → IfSome (top_node sub) (λ n. IsRecord closed n (usage_of sub)) → IsPending sub closed
 unfolding pending own_cost

@@ -2,11 +2,10 @@
 use Rattle.std.proofs.Common.{◌≡◌, true, false, if◌then◌else◌, ℕ, zero, suc, ◌+◌, ◌-◌, ◌^◌, ◌<◌, ◌≤◌, List, [], ◌∷◌, ◌++◌, length, take, drop, min, Option, None, Some, Ok, Err, option_map, IfSome, inl, inr, refl, sym, ◌∙◌, ap, ap₂, subst, append_assoc, append-nil, arith}
 use Rattle.std.specs.Borrow.{Bor}
 use Rattle.std.proofs.lemmas.Bool.{cases_lt}
-use Rattle.std.proofs.lemmas.List.{length-append, length-map}
+use Rattle.std.proofs.lemmas.List.{length-append}
 use Rattle.byte_model.specs.Below.{sum_below, joined_below}
 use Rattle.byte_model.proofs.Below.{sum_below-more, joined_below-more}
 use Rattle.byte_model.specs.Node.{ValueRef}
-use Rattle.byte_model.specs.PackedPath.{longest_path}
 use Rattle.trie_model.specs.Root.{Table}
 use Rattle.trie_shape.specs.Runs.{goes_on}
 use Rattle.batch_model.specs.Changes.{Change, found_at}
@@ -23,21 +22,14 @@ use Rattle.trie_update.specs.declared.ledger.Ledger.{Ledger}
 use Rattle.trie_update.specs.Accounts.{CanCount, GrowsBy, IsNamed}
 use Rattle.trie_update.specs.Adds.{Adds}
 use Rattle.trie_update.specs.Carries.{Carries}
-use Rattle.trie_update.specs.ChangesAt.{AreChangesAt, IsLeft, Lent, change_at as lent_change, changes_at, run_of, value_lent}
+use Rattle.trie_update.specs.ChangesAt.{AreChangesAt, IsLeft, Lent, changes_at, run_of, value_lent}
 use Rattle.trie_update.specs.Places.{Place, PlaceKeeps, place_kid, place_of, place_outcome, place_stated, place_visits}
 use Rattle.trie_update.specs.Placed.{AddsBelow, IsChild, IsParted, run_at}
 use Rattle.trie_update.specs.Subs.{kid_at, kid_of}
 use Rattle.trie_update.proofs.Adding.{adds-then, adds-same}
 use Rattle.trie_update.proofs.Carrying.{carries-then, carries-none, carries-ok, carries-stopped, carries-late, carries-error}
 use Rattle.trie_update.proofs.Turns.{run_below, run_changes, run_left, run}
-
-pub length-changes_at : (depth : ℕ) (changes : List Lent) → length (changes_at depth changes) ≡ length changes
-length-changes_at depth changes = length-map changes (lent_change depth)
-
--- some changes reach no deeper than the longest path
-pub changes-deep : (depth : ℕ) (changes : List Lent) → AreChangesAt depth changes → 1 ≤ length changes → depth ≤ longest_path
-changes-deep depth [] h some = absurd (omega arith)
-changes-deep depth (change ∷ changes) h some = let deep = h.each.0.deep in let short = h.each.0.short in omega arith
+use Rattle.trie_update.proofs.ChangesAt.{length-changes_at}
 
 pub run-short : (x : ℕ) (changes : List Change) → run_of x changes ≤ length changes
 unfolding run_of

@@ -1,17 +1,18 @@
 -- One turn over the nibbles: the changes that go on with a nibble, and those that are left.
-use Rattle.std.proofs.Common.{◌≡◌, ℕ, zero, suc, ◌+◌, ◌<◌, ◌==◌, true, false, List, [], ◌∷◌, length, take, drop, refl, sym, ◌∙◌, ap, ap₂, subst, arith}
+use Rattle.std.proofs.Common.{◌≡◌, ℕ, zero, suc, ◌+◌, ◌==◌, true, false, List, [], ◌∷◌, take, drop, refl, sym, ◌∙◌, ap, ap₂, subst, arith}
 use Rattle.std.proofs.lemmas.List.{length-drop, drop-drop}
 use Rattle.std.specs.List.{AllByRecursion}
 use Rattle.byte_model.specs.Nibbles.{nibbles}
+use Rattle.byte_model.proofs.Lists.{AllByRecursion-take, AllByRecursion-drop}
 use Rattle.trie_model.specs.Tree.{rest_behind}
 use Rattle.trie_model.proofs.Rests.{equal_of_test}
 use Rattle.trie_model.proofs.Order.{Before, slice_cmp-prefix}
-use Rattle.trie_shape.specs.Runs.{StartsFrom}
 use Rattle.batch_model.specs.Changes.{Change}
 use Rattle.change_model.specs.Visits.{changes_behind}
+use Rattle.update_model.proofs.Behind.{rising, rises, RisingChanges}
+use Rattle.trie_shape.proofs.Branches.{longer}
 use Rattle.trie_update.specs.ChangesAt.{Rises, AllFrom, run_of, Lent, value_lent, change_at, changes_at, IsChangeAt, AreChangesAt, IsLeft}
-use Rattle.trie_update.proofs.Runs.{RisingChanges, tails, rising, rises, after-run, below-run, below-after, rising-drop}
-use Rattle.trie_update.proofs.Below.{all-drop, all-take}
+use Rattle.trie_update.proofs.Runs.{tails, after-run, below-run, below-after, rising-drop}
 
 -- ---- changes below a nibble rise
 
@@ -51,12 +52,6 @@ tails-changes_at : (depth : ℕ) (changes : List Lent) → tails (changes_at dep
 tails-changes_at depth [] = refl
 tails-changes_at depth (change ∷ changes) = ap₂ (λ (p : List ℕ) (cs : List Change). (p, value_lent change.1) ∷ cs) (drop-drop 1 depth (nibbles change.0.now)) (tails-changes_at depth changes)
 
-longer : (p : List ℕ) (n x : ℕ) → StartsFrom x (drop n p) → n < length p
-longer [] zero x h = absurd h
-longer [] (suc n) x h = absurd h
-longer (y ∷ p) zero x h = omega arith
-longer (y ∷ p) (suc n) x h = let further = longer p n x h in omega arith
-
 deeper : (depth x : ℕ) (changes : List Lent) → AllFrom x (changes_at depth changes) → AllByRecursion (IsChangeAt depth) changes → AllByRecursion (IsChangeAt (depth + 1)) changes
 deeper depth x [] h each = tt
 deeper depth x (change ∷ changes) h each =
@@ -82,7 +77,7 @@ module _ (x depth : ℕ) (whole rest : List Lent) (left : IsLeft x depth whole r
   unfolding run
   run_changes = record {
     rises = subst Rises (below-run x (changes_at depth rest) rising_rest left.from ∙ ap tails (sym (changes_at-take depth run rest)) ∙ tails-changes_at depth (take run rest)) (rises (changes_behind (x ∷ []) (changes_at depth rest)) (rising-behind x (changes_at depth rest) rising_rest));
-    each = all-take (IsChangeAt (depth + 1)) run rest (deeper depth x rest left.from left.changes.each);
+    each = AllByRecursion-take (IsChangeAt (depth + 1)) run rest (deeper depth x rest left.from left.changes.each);
   }
 
   pub run_left : IsLeft (x + 1) depth whole (drop run rest)
@@ -91,7 +86,7 @@ module _ (x depth : ℕ) (whole rest : List Lent) (left : IsLeft x depth whole r
       let as_drop = changes_at-drop depth run rest in
       let next : suc x ≡ x + 1 = omega arith in
       record {
-        changes = record { rises = subst Rises (sym as_drop) (rises (drop run (changes_at depth rest)) (rising-drop run (changes_at depth rest) rising_rest)); each = all-drop (IsChangeAt depth) run rest left.changes.each };
+        changes = record { rises = subst Rises (sym as_drop) (rises (drop run (changes_at depth rest)) (rising-drop run (changes_at depth rest) rising_rest)); each = AllByRecursion-drop (IsChangeAt depth) run rest left.changes.each };
         from = subst (λ (cs : List Change). AllFrom (x + 1) cs) (sym as_drop) (subst (λ y. AllFrom y (drop run (changes_at depth rest))) next (after-run x (changes_at depth rest) rising_rest left.from));
         below = λ y h. left.below y (omega arith) ∙ below-after x y (changes_at depth rest) (omega arith) ∙ ap (changes_behind (y ∷ [])) (sym as_drop);
         fewer = let shorter = left.fewer in let all = length-drop run rest in omega arith;

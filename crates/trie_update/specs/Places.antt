@@ -12,7 +12,7 @@ use Rattle.update_model.specs.Sound.{StandsAt}
 use Rattle.update_model.specs.Tops.{Top, empty, leaf, branch, extension, lowered, top_behind, top_usage}
 use Rattle.update_model.specs.Joins.{Kid, known, is_there}
 use Rattle.update_model.specs.Updates.{Outcome, behind_outcome, kid_after, kid_outcome, laid, updated}
-use Rattle.update_model.proofs.Usages.{growth}
+use Rattle.update_model.specs.Growth.{growth}
 use Rattle.trie_update.specs.declared.old.Old.{Old}
 use Rattle.trie_update.specs.declared.old.Old.TheVariants.{Nothing, Leaf, Extension}
 use Rattle.trie_update.specs.declared.former.Former.{Former}

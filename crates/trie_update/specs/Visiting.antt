@@ -4,11 +4,11 @@ use Rattle.std.specs.FinMap.{get}
 use Rattle.byte_model.specs.Nibbles.{AreNibbles}
 use Rattle.byte_model.specs.Node.{Node, own_cost}
 use Rattle.byte_model.specs.Laws.{SameNode}
+use Rattle.record_model.specs.Fits.{fitting_node}
 use Rattle.trie_model.specs.Root.{Table}
 use Rattle.change_model.specs.Visits.{Visits, no_text, no_node, no_usage, most_usage}
 use Rattle.base_core.specs.declared.hash.Digest.{Digest}
 use Rattle.node_codec.specs.Meanings.{node_of, path_of}
-use Rattle.trie_shape.specs.Fitting.{fitting_node}
 use Rattle.trie_update.specs.declared.errors.UpdateError.{UpdateError}
 use Rattle.trie_update.specs.declared.errors.UpdateError.TheVariants.{Missing, Bad, Usage, Clash, Fault, NoMemory}
 use Rattle.trie_update.specs.declared.visiting.Visited.{Visited}

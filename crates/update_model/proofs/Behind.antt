@@ -5,7 +5,7 @@ use Rattle.std.specs.List.{AllByRecursion, cons_option}
 use Rattle.std.specs.List.Sorted.{IsStrictlySortedBy}
 use Rattle.std.specs.Ordering.{nat_cmp}
 use Rattle.std.specs.Cmp.Lexicographic.{slice_cmp}
-use Rattle.std.proofs.lemmas.Bool.{cases_lt, false≢true}
+use Rattle.std.proofs.lemmas.Bool.{cases_lt, false≢true, or_cases, ne_eqb}
 use Rattle.std.proofs.lemmas.Bool.Decides.{nat_tests}
 use Rattle.byte_model.specs.Below.{sum_below}
 use Rattle.byte_model.specs.Nibbles.{AreNibbles}
@@ -21,6 +21,7 @@ use Rattle.batch_model.specs.Changes.{Change, found_at}
 use Rattle.change_model.specs.Visits.{changes_behind, change_at, sets_some, any_below}
 use Rattle.change_model.proofs.Left.{any_below-at, any_below_from, found_sets}
 use Rattle.change_model.proofs.Laid.{same_tests}
+use Rattle.change_model.proofs.Alone.{none-behind}
 use Rattle.update_model.specs.Sound.{IsBelow, AreBelow}
 use Rattle.update_model.specs.Updates.{longest_change}
 
@@ -123,10 +124,6 @@ unfolding changes_behind rest_behind
 changes_behind-nil [] = refl
 changes_behind-nil (change ∷ changes) = ap (λ (cs : List Change). change ∷ cs) (changes_behind-nil changes)
 
-pub none-behind : (prefix : List ℕ) → changes_behind prefix [] ≡ []
-unfolding changes_behind
-none-behind prefix = refl
-
 -- ---- the change that ends here
 
 -- all of them go on
@@ -190,16 +187,13 @@ sum-one_more f g x (suc n) h here others = elim (cases_lt x n) [
 pub test_same : (x : ℕ) → (x == x) ≡ true
 test_same x = grind (arith, nat_tests)
 
-pub test_apart : (x y : ℕ) → x ≢ y → (x == y) ≡ false
-test_apart x y h = grind (arith, nat_tests)
-
 behind-same : (x : ℕ) (path : List ℕ) (value : Option (List ℕ)) (changes : List Change) → changes_behind (x ∷ []) ((x ∷ path, value) ∷ changes) ≡ (path, value) ∷ changes_behind (x ∷ []) changes
 unfolding changes_behind rest_behind
 behind-same x path value changes = rw (test_same x) refl
 
 behind-other : (y x : ℕ) (path : List ℕ) (value : Option (List ℕ)) (changes : List Change) → y ≢ x → changes_behind (y ∷ []) ((x ∷ path, value) ∷ changes) ≡ changes_behind (y ∷ []) changes
 unfolding changes_behind rest_behind
-behind-other y x path value changes apart = rw (test_apart y x apart) refl
+behind-other y x path value changes apart = rw (ne_eqb y x apart) refl
 
 abbrev number_behind : List Change → ℕ
 number_behind changes = sum_below (λ x. length (changes_behind (x ∷ []) changes)) 16
@@ -294,17 +288,13 @@ or_true true b h = refl
 or_true false b (inl e) = cc
 or_true false b (inr e) = e
 
-pub true_or : (a b : Bool) → (a || b) ≡ true → (a ≡ true) ⊎ (b ≡ true)
-true_or true b e = inl refl
-true_or false b e = inr e
-
 abbrev SetsBehind : List Change → Type 0
 SetsBehind changes = (x : ℕ) × (x < 16) × (sets_some (changes_behind (x ∷ []) changes) ≡ true)
 
 sets-go_on : (changes : List Change) → AllByRecursion (λ change. AreNibbles change.0) changes → GoOn changes → sets_some changes ≡ true → SetsBehind changes
 sets-go_on [] nibbles h sets = cc
 sets-go_on (([], value) ∷ changes) nibbles h sets = absurd (h.0 refl)
-sets-go_on ((y ∷ path, value) ∷ changes) nibbles h sets = elim (true_or (is_some value) (sets_some changes) sets) [
+sets-go_on ((y ∷ path, value) ∷ changes) nibbles h sets = elim (or_cases (is_some value) (sets_some changes) sets) [
   | inl here ↦ (y, nibbles.0.0, ap sets_some (behind-same y path value changes) ∙ or_true (is_some value) (sets_some (changes_behind (y ∷ []) changes)) (inl here))
   | inr later ↦ (
       let r = sets-go_on changes nibbles.1 h.1 later in (
@@ -326,7 +316,7 @@ sets-behind prefix (change ∷ changes) e = go (rest_behind prefix change.0) e (
   where
     go : (o : Option (List ℕ)) → sets_some (cons_option (option_map (λ rest. (rest, change.1)) o) (changes_behind prefix changes)) ≡ true → (sets_some (changes_behind prefix changes) ≡ true → sets_some changes ≡ true) → sets_some (change ∷ changes) ≡ true
     go None k further = or_true (is_some change.1) (sets_some changes) (inr (further k))
-    go (Some rest) k further = elim (true_or (is_some change.1) (sets_some (changes_behind prefix changes)) k) [
+    go (Some rest) k further = elim (or_cases (is_some change.1) (sets_some (changes_behind prefix changes)) k) [
       | inl here ↦ or_true (is_some change.1) (sets_some changes) (inl here)
       | inr later ↦ or_true (is_some change.1) (sets_some changes) (inr (further later))
     ]
@@ -355,7 +345,7 @@ sets_some-behind depth changes h = same_tests (sets_some changes) (is_set (chang
       | inr ends ↦ (
           let whole : AreBelow depth (([], ends.value) ∷ ends.rest) = subst (AreBelow depth) ends.is h in
           let some : (is_some ends.value || sets_some ends.rest) ≡ true = ap sets_some (sym ends.is) ∙ e in
-          elim (true_or (is_some ends.value) (sets_some ends.rest) some) [
+          elim (or_cases (is_some ends.value) (sets_some ends.rest) some) [
             | inl here ↦ or_true (is_set (change_at [] changes)) (any_below sets 16) (inl (ap (λ (cs : List Change). is_set (change_at [] cs)) ends.is ∙ ap is_set (first-ends ends.value ends.rest) ∙ here))
             | inr later ↦ (
                 let r = sets-go_on ends.rest (nibbles_of depth (([], ends.value) ∷ ends.rest) whole).1 ends.others later in
@@ -364,7 +354,7 @@ sets_some-behind depth changes h = same_tests (sets_some changes) (is_set (chang
     ]
 
     back : (is_set (change_at [] changes) || any_below sets 16) ≡ true → sets_some changes ≡ true
-    back e = elim (true_or (is_set (change_at [] changes)) (any_below sets 16) e) [
+    back e = elim (or_cases (is_set (change_at [] changes)) (any_below sets 16) e) [
       | inl here ↦ sets-here changes here
       | inr any_one ↦ (let r = any_below_from sets 16 any_one in sets-behind (r.0 ∷ []) changes r.2)
     ]

@@ -17,9 +17,9 @@ use Rattle.update_model.proofs.StandsAfter.{short-branch, short-after, kid-stand
 use Rattle.update_model.proofs.Unrefused.{IsDone, BranchDone}
 use Rattle.update_model.proofs.Joined.{ShortValue, KnowsLone, MakesBranch, shaped-joint}
 use Rattle.update_model.proofs.WhatIsLeft.{kid-left, there-inner, there-kids, knows-lone, updated-left}
-use Rattle.update_model.proofs.Usages.{growth}
 use Rattle.update_model.proofs.UsagesAfter.{kid-grows, branch-grows, branch-sums, branch-kids, updated-grows}
 use Rattle.update_model.proofs.Limits.{usage-small, updated-small}
+use Rattle.update_model.specs.Growth.{growth}
 
 module _ (depth : ℕ) (ref : Option ValueRef) (children : ℕ → Seen) (changes : List Change) (stands : BranchStands depth ref children) (each : (x : ℕ) → x < 16 → changes_behind (x ∷ []) changes ≢ [] → StandsAlong (depth + 1) false (children x) (changes_behind (x ∷ []) changes)) (below : AreBelow depth changes) where
   abbrev behind : ℕ → List Change

@@ -6,10 +6,11 @@ use Rattle.std.proofs.lemmas.List.Sums.{sum_by-cons}
 use mathlib.Core.Path.{fun_ext}
 use Rattle.byte_model.specs.Below.{sum_below}
 use Rattle.byte_model.specs.Node.{ValueRef}
-use Rattle.byte_model.proofs.Below.{sum_below-agree}
+use Rattle.byte_model.proofs.Below.{sum_below-agree, sum_below-plus, sum_below-none, sum_below-single}
+use Rattle.byte_model.proofs.Lists.{some_items}
 use Rattle.trie_model.specs.State.{Row}
 use Rattle.trie_model.specs.Tree as tree
-use Rattle.trie_model.specs.Tree.{Tree, below, rest_behind, ends_here, common_prefix, tree_of}
+use Rattle.trie_model.specs.Tree.{below, rest_behind, ends_here, common_prefix, tree_of}
 use Rattle.trie_model.specs.Texts.{value_ref}
 use Rattle.trie_model.proofs.Rests.{AllHavePrefix, common_prefix-all, under-below, same_nibble, below-some}
 use Rattle.trie_model.proofs.Shapes.{name_of-some}
@@ -18,13 +19,12 @@ use Rattle.visit_model.specs.Shown.{shown}
 use Rattle.batch_model.specs.Changes.{Change, found_at}
 use Rattle.change_model.specs.Visits.{changes_behind, change_at}
 use Rattle.change_model.proofs.Laid.{found_at-below}
-use Rattle.change_model.proofs.Left.{ends_here-found_at}
+use Rattle.change_model.proofs.Left.{ends_here-found_at, apart-behind, Apart}
 use Rattle.update_model.specs.Tops.{Top, top_of, top_behind, branch}
 use Rattle.update_model.specs.Joins.{known, Joint, joint}
 use Rattle.update_model.specs.Updates.{Outcome, unchanged, losing, node_outcome, ref_after, behind_outcome, parted, kid_outcome, no_branch, laid, top_seen, updated}
 use Rattle.update_model.proofs.LaidSteps.{laid-step, Steps, by_steps}
-use Rattle.update_model.proofs.LaidBelow.{SmallChanges, small_changes-behind, Distinct, distinct-behind}
-use Rattle.update_model.proofs.NibbleSums.{sum_below-plus, sum_below-none, sum_below-single}
+use Rattle.update_model.proofs.LaidBelow.{SmallChanges, small_changes-behind}
 use Rattle.update_model.proofs.Layable.{Layable, no_row, one_row, before_branch, Behind, Laid, before_fork, at_branch, layable-cases}
 use Rattle.update_model.proofs.NewTrees.{top_seen-extension, fork_of_shared}
 
@@ -59,8 +59,8 @@ module _ (g : List ℕ → Option (List ℕ) → ℕ) where
     | false ↦ let n : ℕ = at_nibble changes x in omega arith
   ]
 
-  weighed_by_nibble : (changes : List Change) → Distinct changes → SmallChanges changes → sum_by (λ (c : Change). g c.0 c.1) changes ≡ here_of (change_at [] changes) + sum_below (at_nibble changes) 16
-  unfolding changes_behind rest_behind found_at Distinct
+  weighed_by_nibble : (changes : List Change) → Apart changes → SmallChanges changes → sum_by (λ (c : Change). g c.0 c.1) changes ≡ here_of (change_at [] changes) + sum_below (at_nibble changes) 16
+  unfolding changes_behind rest_behind found_at Apart
   weighed_by_nibble [] apart small = let zeros = sum_below-none (at_nibble []) 16 (λ x k. refl) in omega arith
   weighed_by_nibble (([], value) ∷ changes) apart small =
       let first = sum_by-cons (λ (c : Change). g c.0 c.1) ([], value) changes in
@@ -78,7 +78,7 @@ module _ (g : List ℕ → Option (List ℕ) → ℕ) where
       other : (x : ℕ) → x ≢ y → (if x == y then g (x ∷ p) value else 0) ≡ 0
       other x apart = let test : (x == y) ≡ false = grind (arith, nat_tests) in ap (λ b. if b then g (x ∷ p) value else 0) test
 
-pub weighed-nibbles : (w : Weight) (rows : List Row) (changes : List Change) → Distinct changes → SmallChanges changes → weighed w rows changes ≡ weight_here w (is_some (ends_here rows)) (change_at [] changes) + sum_below (λ x. weighed w (below (x ∷ []) rows) (changes_behind (x ∷ []) changes)) 16
+pub weighed-nibbles : (w : Weight) (rows : List Row) (changes : List Change) → Apart changes → SmallChanges changes → weighed w rows changes ≡ weight_here w (is_some (ends_here rows)) (change_at [] changes) + sum_below (λ x. weighed w (below (x ∷ []) rows) (changes_behind (x ∷ []) changes)) 16
 weighed-nibbles w rows changes apart small =
     weighed_by_nibble (λ (q : List ℕ) (b : Option (List ℕ)). w (is_some (found_at q rows)) b) changes apart small
     ∙ ap₂ (λ (a b : ℕ). a + b) (go (change_at [] changes))
@@ -95,13 +95,10 @@ pub record Counts (count : Outcome → ℕ) (w : Weight) : Type 0 where
   pub none : (top : Top) → count (unchanged top) ≡ 0
   pub lost : (digest : List ℕ) (outcome : Outcome) → count (losing digest outcome) ≡ count outcome
 
-some_changes : (c : Change) (cs : List Change) → c ∷ cs ≢ []
-some_changes c cs e = cc
-
 module _ (count : Outcome → ℕ) (w : Weight) (counts : Counts count w) where
   -- what becomes of a branch's rows counts so
   abbrev CountedBy : (List Change → Outcome) → List Row → Type 0
-  CountedBy child rows = (changes : List Change) → changes ≢ [] → Distinct changes → SmallChanges changes → count (child changes) ≡ weighed w rows changes
+  CountedBy child rows = (changes : List Change) → changes ≢ [] → Apart changes → SmallChanges changes → count (child changes) ≡ weighed w rows changes
 
   -- the parts of a node, one for each nibble behind which there are changes
   parts-counted : (rows : List Row) (changes : List Change) (behind : ℕ → Outcome)
@@ -113,11 +110,11 @@ module _ (count : Outcome → ℕ) (w : Weight) (counts : Counts count w) where
     where
       go : (x : ℕ) (cs : List Change) → changes_behind (x ∷ []) changes ≡ cs → count (behind x) ≡ weighed w (below (x ∷ []) rows) (changes_behind (x ∷ []) changes)
       go x [] e = untouched x e ∙ sym (ap (weighed w (below (x ∷ []) rows)) e)
-      go x (c ∷ cs) e = touched x (subst (λ (l : List Change). l ≢ []) (sym e) (some_changes c cs))
+      go x (c ∷ cs) e = touched x (subst (λ (l : List Change). l ≢ []) (sym e) (some_items c cs))
 
   module _ (child : List Change → Outcome) where
     CountLaid : Top → List Change → Type 0
-    CountLaid old changes = (rows : List Row) → old ≡ top_of (tree_of rows) → Layable (CountedBy child) rows → changes ≢ [] → Distinct changes → SmallChanges changes → count (laid child old changes) ≡ weighed w rows changes
+    CountLaid old changes = (rows : List Row) → old ≡ top_of (tree_of rows) → Layable (CountedBy child) rows → changes ≢ [] → Apart changes → SmallChanges changes → count (laid child old changes) ≡ weighed w rows changes
 
     behind_some : (old : Top) (cs : List Change) → cs ≢ [] → behind_outcome (laid child) old cs ≡ laid child old cs
     behind_some old [] some = absurd (some refl)
@@ -141,7 +138,7 @@ module _ (count : Outcome → ℕ) (w : Weight) (counts : Counts count w) where
             ∙ ap (λ n. weight_here w (is_some (ends_here rows)) (change_at [] changes) + n)
             (parts-counted rows changes (parted (laid child) old changes)
             (λ x none. ap count (behind_no (top_behind x old) (changes_behind (x ∷ []) changes) none) ∙ counts.none (top_behind x old))
-            (λ x there. ap count (behind_some (top_behind x old) (changes_behind (x ∷ []) changes) there) ∙ further x (top_behind x old) there (below (x ∷ []) rows) (b.behind x) (b.further x) there (distinct-behind (x ∷ []) changes apart) (small_changes-behind (x ∷ []) changes small)))
+            (λ x there. ap count (behind_some (top_behind x old) (changes_behind (x ∷ []) changes) there) ∙ further x (top_behind x old) there (below (x ∷ []) rows) (b.behind x) (b.further x) there (apart-behind (x ∷ []) changes apart) (small_changes-behind (x ∷ []) changes small)))
             ∙ sym (weighed-nibbles w rows changes apart small)
 
         go : Laid (CountedBy child) rows → count (laid child old changes) ≡ weighed w rows changes
@@ -155,7 +152,7 @@ module _ (count : Outcome → ℕ) (w : Weight) (counts : Counts count w) where
   -- ---- by the cases of a trie
 
   Counted : List Row → Type 0
-  Counted rows = (changes : List Change) → changes ≢ [] → Distinct changes → SmallChanges changes → count (updated (shown (tree_of rows)) changes) ≡ weighed w rows changes
+  Counted rows = (changes : List Change) → changes ≢ [] → Apart changes → SmallChanges changes → count (updated (shown (tree_of rows)) changes) ≡ weighed w rows changes
 
   counted_none : Counted []
   unfolding Counted updated shown top_of
@@ -195,7 +192,7 @@ module _ (count : Outcome → ℕ) (w : Weight) (counts : Counts count w) where
       ∙ ap (λ n. weight_here w (is_some (ends_here rows)) (change_at [] changes) + n)
       (parts-counted rows changes (λ x. kid_outcome (changes_behind (x ∷ []) changes) (outcomes x))
       (λ x none. ap (λ (cs : List Change). count (kid_outcome cs (outcomes x))) none ∙ counts.none _)
-      (λ x there. ap count (kid_some (changes_behind (x ∷ []) changes) (outcomes x) there) ∙ further x (changes_behind (x ∷ []) changes) there (distinct-behind (x ∷ []) changes apart) (small_changes-behind (x ∷ []) changes small)))
+      (λ x there. ap count (kid_some (changes_behind (x ∷ []) changes) (outcomes x) there) ∙ further x (changes_behind (x ∷ []) changes) there (apart-behind (x ∷ []) changes apart) (small_changes-behind (x ∷ []) changes small)))
       ∙ sym (weighed-nibbles w rows changes apart small)
     where
       rows : List Row
@@ -208,7 +205,7 @@ module _ (count : Outcome → ℕ) (w : Weight) (counts : Counts count w) where
       kid_some [] outcome there = absurd (there refl)
       kid_some (c ∷ cs) outcome there = refl
 
-  pub counted-rows : (rows : List Row) (changes : List Change) → changes ≢ [] → Distinct changes → SmallChanges changes → count (updated (shown (tree_of rows)) changes) ≡ weighed w rows changes
+  pub counted-rows : (rows : List Row) (changes : List Change) → changes ≢ [] → Apart changes → SmallChanges changes → count (updated (shown (tree_of rows)) changes) ≡ weighed w rows changes
   unfolding Counted
   counted-rows = by_cases Counted (record { none = counted_none; one = counted_one; forks = counted_forks; shares = counted_shares })
 
@@ -238,8 +235,8 @@ gone-counts = record { node = node; none = λ top. refl; lost = λ digest outcom
     node (Some held) (Some None) behind whole further = refl
     node former (Some (Some value)) behind whole further = refl
 
-pub fresh-rows : (rows : List Row) (changes : List Change) → changes ≢ [] → Distinct changes → SmallChanges changes → (updated (shown (tree_of rows)) changes).fresh ≡ count_by (λ change. is_some change.1 && not (is_some (found_at change.0 rows))) changes
+pub fresh-rows : (rows : List Row) (changes : List Change) → changes ≢ [] → Apart changes → SmallChanges changes → (updated (shown (tree_of rows)) changes).fresh ≡ count_by (λ change. is_some change.1 && not (is_some (found_at change.0 rows))) changes
 fresh-rows = counted-rows (λ outcome. outcome.fresh) appears fresh-counts
 
-pub gone-rows : (rows : List Row) (changes : List Change) → changes ≢ [] → Distinct changes → SmallChanges changes → (updated (shown (tree_of rows)) changes).gone ≡ count_by (λ change. is_none change.1 && is_some (found_at change.0 rows)) changes
+pub gone-rows : (rows : List Row) (changes : List Change) → changes ≢ [] → Apart changes → SmallChanges changes → (updated (shown (tree_of rows)) changes).gone ≡ count_by (λ change. is_none change.1 && is_some (found_at change.0 rows)) changes
 gone-rows = counted-rows (λ outcome. outcome.gone) disappears gone-counts

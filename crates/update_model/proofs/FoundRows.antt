@@ -1,12 +1,11 @@
 -- Rising rows are told by what they have at each path, so rows over which nothing is laid stay as they are.
-use Rattle.std.proofs.Common.{◌≡◌, ℕ, Bool, true, false, if◌then◌else◌, List, [], ◌∷◌, None, Some, Equal, Less, refl, sym, ◌∙◌, ap, ap₂, subst}
+use Rattle.std.proofs.Common.{◌≡◌, ℕ, Bool, true, false, if◌then◌else◌, List, [], ◌∷◌, None, Some, refl, sym, ◌∙◌, ap, ap₂, subst}
 use Rattle.std.specs.List.{AllByRecursion}
-use Rattle.std.specs.Cmp.Lexicographic.{nat_list_cmp_total}
 use Rattle.std.proofs.lemmas.Bool.{false≢true}
+use Rattle.std.proofs.lemmas.Option.{none-some}
 use Rattle.trie_model.specs.State.{Row}
 use Rattle.trie_model.specs.Tree.{below}
-use Rattle.trie_model.proofs.Order.{Before, RisingRows, rising-below}
-use Rattle.trie_model.proofs.Growth.{slice_cmp-itself}
+use Rattle.trie_model.proofs.Order.{Before, RisingRows, rising-below, not_before_itself, not_before_back}
 use Rattle.trie_model.proofs.Pairs.{Small, small-below}
 use Rattle.batch_model.specs.Changes.{found_at}
 use Rattle.change_model.proofs.Laid.{IsLaid, same_path, path_of_test, test_of_path}
@@ -21,15 +20,6 @@ pub in_order-below : (prefix : List ℕ) (rows : List Row) → InOrder rows → 
 in_order-below prefix rows h = record { rising = rising-below prefix rows h.rising; small = small-below prefix rows h.small }
 
 -- ---- order
-
-not_before_itself : (p : List ℕ) → Before p p → ⊥
-not_before_itself p h = different (sym (slice_cmp-itself p) ∙ h)
-  where
-    different : Equal ≡ Less → ⊥
-    different e = cc
-
-not_before_each_other : (p q : List ℕ) → Before p q → Before q p → ⊥
-not_before_each_other p q h k = not_before_itself p (nat_list_cmp_total.trans p q p h k)
 
 -- ---- what is found
 
@@ -50,17 +40,14 @@ found_before q (row ∷ rows) h =
       | false ↦ λ t. found_before q rows h.1
     ] refl
 
-not_found : (v : List ℕ) → None ≡ Some v → ⊥
-not_found v e = cc
-
 found_none : (q : List ℕ) → found_at {X = List ℕ} q [] ≡ None
 unfolding found_at
 found_none q = refl
 
 pub same_rows : (rows later : List Row) → RisingRows rows → RisingRows later → ((q : List ℕ) → found_at q later ≡ found_at q rows) → later ≡ rows
 same_rows [] [] h k same = refl
-same_rows [] (l ∷ ls) h k same = absurd (not_found l.1 (sym (found_none l.0) ∙ sym (same l.0) ∙ found_first l ls))
-same_rows (r ∷ rs) [] h k same = absurd (not_found r.1 (sym (found_none r.0) ∙ same r.0 ∙ found_first r rs))
+same_rows [] (l ∷ ls) h k same = absurd (none-some l.1 (sym (found_none l.0) ∙ sym (same l.0) ∙ found_first l ls))
+same_rows (r ∷ rs) [] h k same = absurd (none-some r.1 (sym (found_none r.0) ∙ same r.0 ∙ found_first r rs))
 same_rows (r ∷ rs) (l ∷ ls) h k same = go (same_path r.0 l.0) refl (same_rows rs ls h.1 k.1)
   where
     the_same : (v w : List ℕ) → Some v ≡ Some w → v ≡ w
@@ -86,7 +73,7 @@ same_rows (r ∷ rs) (l ∷ ls) h k same = go (same_path r.0 l.0) refl (same_row
         let apart : same_path l.0 r.0 ≡ false = other_way (same_path l.0 r.0) refl in
         let later : Before l.0 r.0 = found_all (Before l.0) ls r.0 r.1 k.0 (sym (found_other l ls r.0 apart) ∙ same r.0 ∙ found_first r rs) in
         let earlier : Before r.0 l.0 = found_all (Before r.0) rs l.0 l.1 h.0 (sym (found_other r rs l.0 t) ∙ sym (same l.0) ∙ found_first l ls) in
-        absurd (not_before_each_other l.0 r.0 later earlier)
+        absurd (not_before_back l.0 r.0 later earlier)
       where
         other_way : (b : Bool) → same_path l.0 r.0 ≡ b → same_path l.0 r.0 ≡ false
         other_way false e = e

@@ -4,8 +4,8 @@ use Rattle.std.specs.Prelude.{◌||◌}
 use Rattle.std.specs.List.{cons_option}
 use Rattle.std.proofs.lemmas.Bool.{false≢true, false_from_ne_true}
 use Rattle.std.proofs.lemmas.List.Sums.{sum_by-cons}
-use Rattle.byte_model.proofs.Below.{sum_below-agree}
-use Rattle.byte_model.proofs.Lists.{rest_same}
+use Rattle.byte_model.proofs.Below.{sum_below-agree, sum_below-plus}
+use Rattle.byte_model.proofs.Lists.{rest_same, some_items}
 use Rattle.trie_model.specs.State.{Row}
 use Rattle.trie_model.specs.Tree.{Tree, nothing, leaf, branch, extension, below, rest_behind, ends_here, common_prefix, tree_of}
 use Rattle.trie_model.specs.Texts.{text, places, value_ref}
@@ -19,18 +19,14 @@ use Rattle.change_model.specs.Places.{leads_to, is_branch}
 use Rattle.change_model.specs.Visits.{changes_behind, change_at, is_untouched, merged_child}
 use Rattle.change_model.proofs.Forks.{Fork, Stands, at_root, at_fork, behind_fork, fork_unless_alone, fork-prefix}
 use Rattle.change_model.proofs.Laid.{same_path, path_of_test, test_of_path, same_tests, found_at-below}
-use Rattle.change_model.proofs.Left.{has_rows, ends_here-found_at}
+use Rattle.change_model.proofs.Left.{has_rows, ends_here-found_at, Apart}
 use Rattle.change_model.proofs.Alone.{paths_of, leads_to-behind, leads_to-root, leads_to-here, alone_to, alone_from, found_all}
 use Rattle.change_model.proofs.Touching.{tree_there}
 use Rattle.change_model.proofs.Merging.{merged_remains, remaining_merges, IsMerged}
 use Rattle.update_model.proofs.NewTrees.{fork_of_shared}
-use Rattle.update_model.proofs.NibbleSums.{sum_below-plus}
 use Rattle.update_model.proofs.Weights.{by_touch, by_merge, of_value, whole, inner, staying, kept}
-use Rattle.update_model.proofs.LaidBelow.{Laying, laying-below, laying-same, Distinct, if_found, changes_by_nibble}
+use Rattle.update_model.proofs.LaidBelow.{Laying, laying-below, laying-same, if_found, changes_by_nibble}
 use Rattle.update_model.proofs.PlaceSums.{sum_by-none, sum_by-agree, sum_by-branch, sum_by-extension, sum_at_root, place_in, place_is_in, place_stands, place_of_stands, place_in-behind}
-
-some_change : (c : Change) (cs : List Change) → c ∷ cs ≢ []
-some_change c cs e = cc
 
 -- ---- what is given up
 
@@ -63,9 +59,6 @@ stays_below p q rows changes later h none i some =
     ∙ ap not (place_in-behind p later q h.after.small some ∙ ap (λ (rs : List Row). place_in rs q) (laying-same p rows changes later h none) ∙ place_is_in (below p rows) q i)
 
 -- ---- the child that is merged
-
-no_cons : (x : ℕ) (q : List ℕ) → x ∷ q ≢ []
-no_cons x q e = cc
 
 module _ (row next : Row) (others : List Row) (e : common_prefix row (next ∷ others) ≡ []) (changes : List Change) (later : List Row) (laying : Laying (row ∷ next ∷ others) changes later) where
   abbrev fork_rows : List Row
@@ -146,7 +139,7 @@ module _ (f : List ℕ → ℕ) where
       (ap (given_up changes later) (append-nil p) ∙ given_up-here p changes later some ∙ sym (given_up-root (changes_behind p changes) (below p later) some))
       (below-append p [] rows)
   given-behind p (x ∷ q) rows changes later small some =
-      ap₂ (λ (b : Bool) (rs : List Row). cond b (f (text (tree_of rs))) 0) (given_up-behind p (x ∷ q) changes later small (no_cons x q)) (below-append p (x ∷ q) rows)
+      ap₂ (λ (b : Bool) (rs : List Row). cond b (f (text (tree_of rs))) 0) (given_up-behind p (x ∷ q) changes later small (some_items x q)) (below-append p (x ∷ q) rows)
 
   given-stays : (p q : List ℕ) (rows : List Row) (changes : List Change) (later : List Row) → given_up changes later (p ++ q) ≡ false → given rows changes later (p ++ q) ≡ 0
   given-stays p q rows changes later e = ap (λ b. cond b (f (text (tree_of (below (p ++ q) rows)))) 0) e
@@ -162,19 +155,19 @@ module _ (f : List ℕ → ℕ) where
   not_same : (p q : List ℕ) → same_path p q ≡ false → same_path q p ≡ false
   not_same p q e = false_from_ne_true (same_path q p) (λ t. false≢true (sym e ∙ test_of_path p q (sym (path_of_test q p t))))
 
-  former_one : (path value : List ℕ) (changes : List Change) → Distinct changes → former ((path, value) ∷ []) changes ≡ if_found (change_at path changes) (f value)
-  unfolding found_at Distinct
-  former_one path value [] distinct = refl
-  former_one path value (c ∷ cs) distinct =
+  former_one : (path value : List ℕ) (changes : List Change) → Apart changes → former ((path, value) ∷ []) changes ≡ if_found (change_at path changes) (f value)
+  unfolding found_at Apart
+  former_one path value [] apart = refl
+  former_one path value (c ∷ cs) apart =
       sum_by-cons (λ (c : Change). of_value f (found_at c.0 ((path, value) ∷ []))) c cs
-      ∙ ap (λ n. of_value f (found_at c.0 ((path, value) ∷ [])) + n) (former_one path value cs distinct.1)
+      ∙ ap (λ n. of_value f (found_at c.0 ((path, value) ∷ [])) + n) (former_one path value cs apart.1)
       ∙ go (same_path c.0 path) refl
     where
       go : (b : Bool) → same_path c.0 path ≡ b → of_value f (found_at c.0 ((path, value) ∷ [])) + if_found (change_at path cs) (f value) ≡ if_found (if same_path c.0 path then Some c.1 else change_at path cs) (f value)
       go true t =
           let same : c.0 ≡ path = path_of_test c.0 path t in
           let here : of_value f (found_at c.0 ((path, value) ∷ [])) ≡ f value = ap (λ b. of_value f (if b then Some value else None)) (test_of_path path c.0 (sym same)) in
-          let none : if_found (change_at path cs) (f value) ≡ 0 = ap (λ (o : Option (Option (List ℕ))). if_found o (f value)) (ap (λ (p : List ℕ). found_at p cs) (sym same) ∙ distinct.0) in
+          let none : if_found (change_at path cs) (f value) ≡ 0 = ap (λ (o : Option (Option (List ℕ))). if_found o (f value)) (ap (λ (p : List ℕ). found_at p cs) (sym same) ∙ apart.0) in
           let all : if_found (if same_path c.0 path then Some c.1 else change_at path cs) (f value) ≡ f value = ap (λ b. if_found (if b then Some c.1 else change_at path cs) (f value)) t in
           omega arith
       go false t =
@@ -191,7 +184,7 @@ module _ (f : List ℕ → ℕ) where
   taken_one row changes later some h =
       let t = tree_of-one row in
       let root = given-root (row ∷ []) changes later some ∙ ap (λ tree. f (text tree)) t in
-      let value = former_one row.0 row.1 changes h.distinct in
+      let value = former_one row.0 row.1 changes h.apart in
       let here = staying_or_found (Some row.1) (change_at row.0 changes) in
       let one = sum_by-cons (given (row ∷ []) changes later) [] [] in
       subst (λ tree. kept f tree changes + (sum_by (given (row ∷ []) changes later) (places tree) + former (row ∷ []) changes) ≡ whole f tree) (sym t)
@@ -280,7 +273,7 @@ module _ (f : List ℕ → ℕ) where
         go : (cs : List Change) → cs_at x ≡ cs → by_touch cs (by_merge merged x (inner f (kid x)) (whole f (kid x))) (kept f (kid x) cs) + (given_at x + former (below (x ∷ []) rs) cs) ≡ whole f (kid x)
         go [] none = let h = untouched_kid x none in omega arith
         go (c ∷ cs) is =
-            let there : cs_at x ≢ [] = subst (λ (l : List Change). l ≢ []) (sym is) (some_change c cs) in
+            let there : cs_at x ≢ [] = subst (λ (l : List Change). l ≢ []) (sym is) (some_items c cs) in
             let same = sum_by-agree (λ q. given rs changes later (x ∷ q)) (given (below (x ∷ []) rs) (cs_at x) (below (x ∷ []) later)) (places (kid x)) (λ q. given-behind (x ∷ []) q rs changes later laying.after.small there) in
             ap (λ n. kept f (kid x) (c ∷ cs) + (n + former (below (x ∷ []) rs) (c ∷ cs))) same
             ∙ subst (λ (l : List Change). kept f (kid x) l + (sum_by (given (below (x ∷ []) rs) (cs_at x) (below (x ∷ []) later)) (places (kid x)) + former (below (x ∷ []) rs) l) ≡ whole f (kid x)) is
@@ -292,7 +285,7 @@ module _ (f : List ℕ → ℕ) where
         let t = tree_of-forks row next others e in
         let root = given-root rs changes later some ∙ ap (λ tree. f (text tree)) t in
         let sums = sum_by-branch (given rs changes later) (ends_here rs) kid in
-        let split = changes_by_nibble (λ q. of_value f (found_at q rs)) changes laying.distinct laying.nibbles in
+        let split = changes_by_nibble (λ q. of_value f (found_at q rs)) changes laying.apart laying.nibbles in
         let formers = sum_below-agree (λ x. sum_by (λ (c : Change). of_value f (found_at (x ∷ c.0) rs)) (cs_at x)) former_at 16 (λ x k. former-below (x ∷ []) rs (cs_at x)) in
         let value : if_found (change_at [] changes) (of_value f (found_at [] rs)) ≡ if_found (change_at [] changes) (of_value f (ends_here rs)) = ap (λ (o : Option (List ℕ)). if_found (change_at [] changes) (of_value f o)) (sym (ends_here-found_at rs)) in
         let here = staying_or_found (ends_here rs) (change_at [] changes) in
@@ -354,12 +347,12 @@ module _ (f : List ℕ → ℕ) where
           let fork = fork_of_shared path row next others e all in
           given-stays path [] rows changes later (given_up-untouched path [] changes later none
           ∙ ap not (place_of_stands later (path ++ []) laying.after.small (at_fork (subst Fork (sym (ap (λ (p : List ℕ). below p later) (append-nil path) ∙ laying-same path rows changes later laying none)) fork))))
-      stays none (y ∷ q) i = given-stays path (y ∷ q) rows changes later (stays_below path (y ∷ q) rows changes later laying none i (no_cons y q))
+      stays none (y ∷ q) i = given-stays path (y ∷ q) rows changes later (stays_below path (y ∷ q) rows changes later laying none i (some_items y q))
 
       go : (cs : List Change) → changes_behind path changes ≡ cs → by_touch cs (whole f child) (kept f child cs) + (sum_by (λ q. given rows changes later (path ++ q)) (places child) + former (below path rows) cs) ≡ whole f child
       go [] none = let zero = sum_by-none (λ q. given rows changes later (path ++ q)) (places child) (stays none) in omega arith
       go (c ∷ cs) is =
-          let there : changes_behind path changes ≢ [] = subst (λ (l : List Change). l ≢ []) (sym is) (some_change c cs) in
+          let there : changes_behind path changes ≢ [] = subst (λ (l : List Change). l ≢ []) (sym is) (some_items c cs) in
           let same = sum_by-agree (λ q. given rows changes later (path ++ q)) (given (below path rows) (changes_behind path changes) (below path later)) (places child) (λ q. given-behind path q rows changes later laying.after.small there) in
           ap (λ n. kept f child (c ∷ cs) + (n + former (below path rows) (c ∷ cs))) same
           ∙ subst (λ (l : List Change). kept f child l + (sum_by (given (below path rows) (changes_behind path changes) (below path later)) (places child) + former (below path rows) l) ≡ whole f child) is

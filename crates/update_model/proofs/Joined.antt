@@ -1,12 +1,13 @@
 -- What a value and children join to: whether something is there, where its top stands, and how many children a branch has.
-use Rattle.std.proofs.Common.{◌≡◌, ℕ, zero, suc, ◌+◌, ◌<◌, ◌≤◌, if◌then◌else◌, Bool, true, false, List, [], ◌∷◌, ◌++◌, length, Option, None, Some, is_some, IfSome, inl, inr, refl, sym, ◌∙◌, ap, ap₂, subst, arith, length-append}
+use Rattle.std.proofs.Common.{◌≡◌, ℕ, zero, suc, ◌+◌, ◌<◌, ◌≤◌, if◌then◌else◌, Bool, true, false, List, [], ◌∷◌, ◌++◌, length, Option, None, Some, is_some, IfSome, inl, refl, sym, ◌∙◌, ap, ap₂, subst, arith, length-append}
 use Rattle.std.specs.Prelude.{◌||◌, ⊤}
 use Rattle.byte_model.specs.Below.{sum_below}
 use Rattle.byte_model.specs.PackedPath.{longest_path}
 use Rattle.byte_model.specs.Node as node
 use Rattle.byte_model.specs.Node.{ValueRef, IsShaped, longest_value, child_count}
-use Rattle.trie_model.proofs.Members.{IsIn, in-append_cases}
+use Rattle.trie_model.proofs.Members.{IsIn}
 use Rattle.change_model.specs.Visits.{any_below, numbers_below}
+use Rattle.change_model.proofs.Merging.{number_from}
 use Rattle.update_model.specs.Tops.{empty, leaf, branch, extension, top_digest}
 use Rattle.update_model.specs.Joins.{Kid, named, known, is_there, kid_top, kid_name, there, joint, joint_by}
 use Rattle.update_model.specs.Sound.{StandsAt}
@@ -34,24 +35,9 @@ any-numbers f (suc n) =
     last true = refl
     last false = refl
 
--- each of them is below the bound, and the test holds there
-pub numbers-hold : (f : ℕ → Bool) (n y : ℕ) → IsIn (numbers_below f n) y → (y < n) × (f y ≡ true)
-unfolding numbers_below
-numbers-hold f zero y h = absurd h
-numbers-hold f (suc n) y h =
-    elim (in-append_cases (numbers_below f n) (if f n then n ∷ [] else []) y h) [
-      | inl l ↦ let r = numbers-hold f n y l in ((let k : y < n = r.0 in omega arith), r.1)
-      | inr r ↦ last (f n) refl r
-    ]
-  where
-    last : (b : Bool) → f n ≡ b → IsIn (if b then n ∷ [] else []) y → (y < suc n) × (f y ≡ true)
-    last true e (inl same) = ((let k : n ≡ y = same in omega arith), ap f (sym same) ∙ e)
-    last true e (inr none) = absurd none
-    last false e none = absurd none
-
 -- the only one
 pub only-holds : (f : ℕ → Bool) (n x : ℕ) → numbers_below f n ≡ x ∷ [] → (x < n) × (f x ≡ true)
-only-holds f n x e = numbers-hold f n x (subst (λ (l : List ℕ). IsIn l x) (sym e) (inl refl))
+only-holds f n x e = number_from f n x (subst (λ (l : List ℕ). IsIn l x) (sym e) (inl refl))
 
 -- they are as many as there are ones in the sum of the tests
 pub count-numbers : (f : ℕ → Bool) (n : ℕ) → sum_below (λ i. if f i then 1 else 0) n ≡ length (numbers_below f n)

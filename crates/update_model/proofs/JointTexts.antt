@@ -4,7 +4,7 @@ use Rattle.std.proofs.lemmas.Bool.{false≢true}
 use Rattle.std.proofs.lemmas.List.Sums.{sum_by-cons, sum_by-append}
 use Rattle.byte_model.specs.Below.{sum_below, joined_below}
 use Rattle.byte_model.specs.Node.{ValueRef}
-use Rattle.byte_model.proofs.Below.{sum_below-agree, sum_by-joined_below}
+use Rattle.byte_model.proofs.Below.{sum_below-agree, sum_by-joined_below, sum_below-plus, sum_below-none, sum_below-single}
 use Rattle.trie_model.specs.State.{Row}
 use Rattle.trie_model.specs.Tree as tree
 use Rattle.trie_model.specs.Tree.{Tree, below, ends_here, common_prefix, tree_of}
@@ -23,7 +23,6 @@ use Rattle.update_model.specs.Tops.{empty, leaf, branch, top_of, pending}
 use Rattle.update_model.specs.Joins.{Kid, named, known, is_there, kid_pending, there, branched, branch_text, joint_by, joint}
 use Rattle.update_model.proofs.JointsAlike.{number_from}
 use Rattle.update_model.proofs.Joints.{KidOf, AreKids, is_there-of, in_numbers, joint-rows, text-branch}
-use Rattle.update_model.proofs.NibbleSums.{sum_below-plus, sum_below-none, sum_below-single}
 use Rattle.update_model.proofs.Weights.{of_value, whole, inner, inner_and_pending, inner-grown}
 
 -- ---- tries by their tops

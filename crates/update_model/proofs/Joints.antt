@@ -6,7 +6,7 @@ use Rattle.sha2.specs.Sha256.{sha256}
 use Rattle.byte_model.specs.Below.{sum_below}
 use Rattle.byte_model.specs.Node as node
 use Rattle.byte_model.specs.Node.{ValueRef, cost_of, spelled}
-use Rattle.byte_model.proofs.Below.{sum_below-agree}
+use Rattle.byte_model.proofs.Below.{sum_below-agree, sum_below-plus}
 use Rattle.byte_model.proofs.Lists.{first_same}
 use Rattle.trie_model.specs.State.{Row}
 use Rattle.trie_model.specs.Tree as tree
@@ -29,7 +29,6 @@ use Rattle.change_model.proofs.Alone.{found_all, all_found}
 use Rattle.update_model.specs.Tops.{Top, empty, leaf, branch, extension, top_of, top_usage, top_digest, lowered}
 use Rattle.update_model.specs.Joins.{Kid, named, known, is_there, kid_top, kid_name, kid_usage, there, branched, branch_text, branch_used, joint_by, joint}
 use Rattle.update_model.proofs.FoundRows.{InOrder}
-use Rattle.update_model.proofs.NibbleSums.{sum_below-plus}
 pub use Rattle.change_model.proofs.Merging.{in_numbers, no_numbers, only_number}
 
 -- ---- the top of a trie

@@ -1,11 +1,11 @@
 -- What a value and children join to depends on the children at the sixteen nibbles alone.
-use Rattle.std.proofs.Common.{◌≡◌, ℕ, ◌+◌, ◌^◌, ◌<◌, if◌then◌else◌, List, [], ◌∷◌, ◌++◌, Option, None, Some, is_some, inl, refl, ◌∙◌, ap, ap₂, subst}
+use Rattle.std.proofs.Common.{◌≡◌, ℕ, ◌+◌, ◌<◌, List, [], ◌∷◌, ◌++◌, Option, None, Some, inl, refl, ◌∙◌, ap, subst}
 use Rattle.sha2.specs.Sha256.{sha256}
 use Rattle.byte_model.specs.Below.{sum_below, joined_below}
-use Rattle.byte_model.specs.Borsh.{borsh_u16, borsh_u64}
 use Rattle.byte_model.specs.Node as node
-use Rattle.byte_model.specs.Node.{ValueRef, spelled_value, child_bit, child_digest, spelled_children, spelled}
+use Rattle.byte_model.specs.Node.{ValueRef, spelled}
 use Rattle.byte_model.proofs.Below.{sum_below-agree, joined_below-agree}
+use Rattle.byte_model.proofs.Spellings.{spelled_branch-agree}
 use Rattle.trie_model.proofs.Members.{IsIn}
 use Rattle.change_model.specs.Visits.{branch_cost}
 use Rattle.change_model.proofs.Along.{numbers_below-agree}
@@ -15,18 +15,6 @@ use Rattle.update_model.specs.Updates.{Outcome, node_outcome, value_made, value_
 pub use Rattle.change_model.proofs.Merging.{number_from}
 
 -- ---- records of branches
-
-pub spelled_children-agree : (f g : ℕ → Option (List ℕ)) → ((x : ℕ) → x < 16 → f x ≡ g x) → spelled_children f ≡ spelled_children g
-unfolding spelled_children
-spelled_children-agree f g same =
-    ap₂ (λ (bits : ℕ) (digests : List ℕ). borsh_u16 bits ++ digests)
-    (sum_below-agree (child_bit f) (child_bit g) 16 (λ x small. ap (λ o. if is_some o then 2 ^ x else 0) (same x small)))
-    (joined_below-agree (λ x. child_digest (f x)) (λ x. child_digest (g x)) 16 (λ x small. ap child_digest (same x small)))
-
-pub spelled_branch-agree : (ref : Option ValueRef) (f g : ℕ → Option (List ℕ)) (used : ℕ) → ((x : ℕ) → x < 16 → f x ≡ g x) → spelled (node.branch ref f) used ≡ spelled (node.branch ref g) used
-unfolding spelled
-spelled_branch-agree None f g used same = ap (λ (children : List ℕ). 1 ∷ children ++ borsh_u64 used) (spelled_children-agree f g same)
-spelled_branch-agree (Some ref) f g used same = ap (λ (children : List ℕ). 2 ∷ spelled_value ref ++ children ++ borsh_u64 used) (spelled_children-agree f g same)
 
 -- ---- numbers at which a test holds
 

@@ -1,23 +1,21 @@
 -- Rows with changes laid over, with all that passes on to the rows below a path.
-use Rattle.std.proofs.Common.{◌≡◌, ◌≢◌, ℕ, ◌+◌, ◌==◌, true, false, if◌then◌else◌, List, [], ◌∷◌, sum_by, Option, None, Some, option_map, refl, sym, ◌∙◌, ap, subst, arith}
-use Rattle.std.specs.Prelude.{⊤}
+use Rattle.std.proofs.Common.{◌≡◌, ◌≢◌, ℕ, ◌+◌, ◌==◌, true, false, if◌then◌else◌, List, [], ◌∷◌, sum_by, Option, None, Some, option_map, refl, ◌∙◌, ap, subst, arith}
 use Rattle.std.specs.List.{AllByRecursion, cons_option}
 use Rattle.std.proofs.lemmas.Bool.Decides.{nat_tests}
 use Rattle.std.proofs.lemmas.List.Sums.{sum_by-cons}
 use Rattle.byte_model.specs.Below.{sum_below}
 use Rattle.byte_model.specs.Nibbles.{AreNibbles}
-use Rattle.byte_model.proofs.Below.{sum_below-agree}
+use Rattle.byte_model.proofs.Below.{sum_below-agree, sum_below-plus, sum_below-none, sum_below-single}
 use Rattle.byte_model.proofs.Digits.{AreNibbles-rest}
 use Rattle.trie_model.specs.State.{Row}
 use Rattle.trie_model.specs.Tree.{below, rest_behind}
 use Rattle.trie_model.proofs.Rests.{prefix_and_rest, same_nibble}
 use Rattle.batch_model.specs.Changes.{Change, found_at}
 use Rattle.change_model.specs.Visits.{changes_behind, change_at}
-use Rattle.change_model.proofs.Laid.{IsLaid, laid-below, found_at-changes_behind}
+use Rattle.change_model.proofs.Laid.{IsLaid, laid-below}
 use Rattle.change_model.proofs.Left.{Apart, apart-behind}
 use Rattle.update_model.proofs.FoundRows.{InOrder, in_order-below}
 use Rattle.update_model.proofs.LaidTrees.{untouched-below}
-use Rattle.update_model.proofs.NibbleSums.{sum_below-plus, sum_below-none, sum_below-single}
 
 -- changes of paths of nibbles
 abbrev pub SmallChanges : List Change → Type 0
@@ -32,27 +30,9 @@ small_changes-behind p (change ∷ changes) small =
       | Some rest ↦ λ e. (AreNibbles-rest p rest (subst AreNibbles (prefix_and_rest p change.0 rest e) small.0), small_changes-behind p changes small.1)
     ] refl
 
--- Changes of different paths. `Apart` says the same; what it says is not seen from here.
-unfoldable pub Distinct : List Change → Type 0
-Distinct [] = ⊤
-Distinct (change ∷ changes) = (found_at change.0 changes ≡ None) × Distinct changes
-
-pub distinct-behind : (p : List ℕ) (changes : List Change) → Distinct changes → Distinct (changes_behind p changes)
-unfolding Distinct changes_behind
-distinct-behind p [] apart = tt
-distinct-behind p (change ∷ changes) apart =
-    elim (rest_behind p change.0) as (λ r. rest_behind p change.0 ≡ r → Distinct (cons_option (option_map (λ rest. (rest, change.1)) r) (changes_behind p changes))) [
-      | None ↦ λ e. distinct-behind p changes apart.1
-      | Some rest ↦ λ e. (
-        found_at-changes_behind p rest changes ∙ ap (λ (q : List ℕ). found_at q changes) (sym (prefix_and_rest p change.0 rest e)) ∙ apart.0,
-        distinct-behind p changes apart.1,
-      )
-    ] refl
-
 pub record Laying (rows : List Row) (changes : List Change) (later : List Row) : Type 0 where
   pub laid : IsLaid rows changes later
   pub apart : Apart changes
-  pub distinct : Distinct changes
   pub nibbles : SmallChanges changes
   pub before : InOrder rows
   pub after : InOrder later
@@ -61,7 +41,6 @@ pub laying-below : (p : List ℕ) (rows : List Row) (changes : List Change) (lat
 laying-below p rows changes later h = record {
   laid = laid-below p rows changes later h.laid;
   apart = apart-behind p changes h.apart;
-  distinct = distinct-behind p changes h.distinct;
   nibbles = small_changes-behind p changes h.nibbles;
   before = in_order-below p rows h.before;
   after = in_order-below p later h.after;
@@ -89,8 +68,8 @@ module _ (g : List ℕ → ℕ) where
     | false ↦ let n : ℕ = behind_nibble changes x in omega arith
   ]
 
-  pub changes_by_nibble : (changes : List Change) → Distinct changes → SmallChanges changes → sum_by (λ (c : Change). g c.0) changes ≡ if_found (change_at [] changes) (g []) + sum_below (behind_nibble changes) 16
-  unfolding changes_behind rest_behind found_at Distinct
+  pub changes_by_nibble : (changes : List Change) → Apart changes → SmallChanges changes → sum_by (λ (c : Change). g c.0) changes ≡ if_found (change_at [] changes) (g []) + sum_below (behind_nibble changes) 16
+  unfolding changes_behind rest_behind found_at Apart
   changes_by_nibble [] apart small = let zeros = sum_below-none (behind_nibble []) 16 (λ x k. refl) in omega arith
   changes_by_nibble (([], value) ∷ changes) apart small =
       let first = sum_by-cons (λ (c : Change). g c.0) ([], value) changes in

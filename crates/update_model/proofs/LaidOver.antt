@@ -18,9 +18,9 @@ use Rattle.update_model.proofs.TopsBelow.{NoBranch, stands-top_behind}
 use Rattle.update_model.proofs.LaidKeeps.{OfChild, of_child-behind, laid-keeps_behind, of_child-map}
 use Rattle.update_model.proofs.WhatIsLeft.{LeftAs, left_of, behind-left, passes-left, laid-left, left-some, left-absorbs, updated-left}
 use Rattle.update_model.proofs.Joined.{ShortValue, MakesBranch, shaped-joint}
-use Rattle.update_model.proofs.Usages.{growth}
 use Rattle.update_model.proofs.Limits.{most_before, usage-small, reached-small}
 use Rattle.update_model.proofs.UsagesAfter.{Grows, grown-branch, laid-grows, passes-grows, reached, fork-sums, fork-kids, updated-grows}
+use Rattle.update_model.specs.Growth.{growth}
 
 -- ---- what becomes of the branch before which a top stands
 

@@ -7,7 +7,7 @@ use Rattle.std.proofs.lemmas.List.Sums.{sum_by-cons, sum_by-append}
 use Rattle.byte_model.specs.Below.{sum_below, joined_below}
 use Rattle.byte_model.specs.Nibbles.{AreNibbles}
 use Rattle.byte_model.specs.Node.{ValueRef}
-use Rattle.byte_model.proofs.Below.{sum_below-agree, sum_by-joined_below, sum_below-zero}
+use Rattle.byte_model.proofs.Below.{sum_below-agree, sum_by-joined_below, sum_below-zero, sum_below-plus, sum_below-none, sum_below-single}
 use Rattle.trie_model.specs.State.{Row}
 use Rattle.trie_model.specs.Tree as tree
 use Rattle.trie_model.specs.Tree.{Tree, rest_behind, below, ends_here, tree_of}
@@ -30,7 +30,6 @@ use Rattle.update_model.proofs.LaidSteps.{laid-step, Steps, by_steps, changes_be
 use Rattle.update_model.proofs.Joints.{AreKids, is_known, top_of-grown}
 use Rattle.update_model.proofs.Layable.{Layable, no_row, one_row, before_branch, Behind, behind_none, behind_one, behind_path, fork-top, ends_here-under, below-under_same, below-under_apart}
 use Rattle.update_model.proofs.LaidTrees.{Right, ref_after-rows, laid-rows}
-use Rattle.update_model.proofs.NibbleSums.{sum_below-plus, sum_below-none, sum_below-single}
 use Rattle.update_model.proofs.Weights.{by_touch, of_value, whole, inner, staying, kept, kept_if}
 use Rattle.update_model.proofs.LaidBelow.{Laying, laying-below, laying-same}
 use Rattle.update_model.proofs.JointTexts.{joint-weighs}

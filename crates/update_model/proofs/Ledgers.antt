@@ -7,7 +7,7 @@ use Rattle.std.specs.FinMap.{get, entries}
 use Rattle.std.proofs.lemmas.List.Sums.{sum_by-cons, sum_by-append}
 use Rattle.byte_model.specs.Below.{joined_below}
 use Rattle.byte_model.specs.Nibbles.{nibbles, AreNibbles}
-use Rattle.byte_model.proofs.Below.{sum_below-agree, sum_by-joined_below}
+use Rattle.byte_model.proofs.Below.{sum_below-agree, sum_by-joined_below, sum_below-plus}
 use Rattle.byte_model.proofs.Digits.{AreNibbles-prefix}
 use Rattle.trie_model.specs.State.{State, Row, IsState, rows_of}
 use Rattle.trie_model.specs.Tree.{Tree, nothing, leaf, branch, extension, below, tree_of}
@@ -34,10 +34,9 @@ use Rattle.update_model.specs.Updates.{Outcome, updated}
 use Rattle.update_model.proofs.FoundRows.{InOrder}
 use Rattle.update_model.proofs.NewTrees.{updated-rows}
 use Rattle.update_model.proofs.Weights.{Nibbled, of_value, whole, inner_and_pending, kept}
-use Rattle.update_model.proofs.NibbleSums.{sum_below-plus}
 use Rattle.update_model.proofs.PlaceSums.{sum_by-agree}
 use Rattle.update_model.proofs.LaidBelow.{Laying}
-use Rattle.update_model.proofs.OverStates.{small-change_rows, distinct-change_rows, in_order-rows_of, in_order-after, found_at-key, paths-change_rows, updated-over_state}
+use Rattle.update_model.proofs.OverStates.{small-change_rows, in_order-rows_of, in_order-after, found_at-key, paths-change_rows, updated-over_state}
 use Rattle.update_model.proofs.Losses.{by_digest, lost, updated-lost}
 use Rattle.update_model.proofs.GivenUp.{given_up, given, former, taken}
 use Rattle.update_model.proofs.NewTexts.{updated-made}
@@ -157,7 +156,6 @@ module _ (state : State) (changes : Changes) (is : IsState state) (are : AreChan
   laying = record {
     laid = laid-after state changes;
     apart = apart-change_rows changes;
-    distinct = distinct-change_rows changes;
     nibbles = small-change_rows changes are;
     before = in_order-rows_of state is;
     after = in_order-after state changes is are;

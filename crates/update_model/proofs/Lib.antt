@@ -3,7 +3,6 @@ pub mod Worked
 pub mod JointsAlike
 pub mod SameUpdates
 pub mod FoundRows
-pub mod NibbleSums
 pub mod Joints
 pub mod Layable
 pub mod LaidTrees

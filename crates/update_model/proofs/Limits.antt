@@ -22,8 +22,9 @@ use Rattle.update_model.specs.Updates.{updated}
 use Rattle.update_model.proofs.Behind.{RisingChanges, rises}
 use Rattle.update_model.proofs.Stands.{StandsAlong, along-stands, stands-seen}
 use Rattle.update_model.proofs.Unrefused.{IsDone, touched_done, missing-refused, bad-refused, leaf-done, branch-done, extension-done}
-use Rattle.update_model.proofs.Usages.{growth, growth-most}
+use Rattle.update_model.proofs.Usages.{growth-most}
 use Rattle.update_model.proofs.UsagesAfter.{reached, if_reached, if_reached-le, updated-grows}
+use Rattle.update_model.specs.Growth.{growth}
 
 -- ---- numbers
 

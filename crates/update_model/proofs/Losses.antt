@@ -6,7 +6,7 @@ use Rattle.sha2.specs.Sha256.{sha256}
 use Rattle.byte_model.specs.Below.{sum_below, joined_below}
 use Rattle.byte_model.specs.Nibbles.{AreNibbles}
 use Rattle.byte_model.specs.Node.{ValueRef}
-use Rattle.byte_model.proofs.Below.{sum_below-agree, sum_by-joined_below}
+use Rattle.byte_model.proofs.Below.{sum_below-agree, sum_by-joined_below, sum_below-plus, sum_below-none, sum_below-single}
 use Rattle.trie_model.specs.Tree.{Tree, nothing, leaf, branch, extension}
 use Rattle.trie_model.specs.Texts.{text, usage, value_ref}
 use Rattle.trie_model.proofs.Members.{IsIn}
@@ -17,13 +17,13 @@ use Rattle.batch_model.specs.Changes.{Change, found_at}
 use Rattle.change_model.specs.Visits.{changes_behind, change_at, merged_child, lone_child, has_value_after, is_left, numbers_below, is_untouched, extension_cost}
 use Rattle.change_model.specs.Along.{digest_of}
 use Rattle.change_model.proofs.Laid.{found_at-changes_behind}
+use Rattle.change_model.proofs.Merging.{untouched_none}
 use Rattle.update_model.specs.Tops.{Top, lowered, top_behind, ref_here}
 use Rattle.update_model.specs.Tops as tops
 use Rattle.update_model.specs.Updates.{Outcome, losing, value_lost, ref_after, node_outcome, behind_outcome, parted, fork_outcome, laid_within, laid, no_branch, kid_outcome, lost_alone, merged_lost, kids_after, parts, branch_outcome, digest_or_none, updated}
 use Rattle.update_model.specs.Joins.{Joint, known, joint}
 use Rattle.update_model.proofs.JointsAlike.{number_from}
 use Rattle.update_model.proofs.LaidSteps.{laid-step, changes_behind-nil, changes_behind-append}
-use Rattle.update_model.proofs.NibbleSums.{sum_below-plus, sum_below-none, sum_below-single}
 use Rattle.update_model.proofs.Weights.{Nibbled, by_touch, by_merge, of_value, whole, inner, staying, kept}
 
 -- ---- the child that is merged
@@ -32,10 +32,6 @@ use Rattle.update_model.proofs.Weights.{Nibbled, by_touch, by_merge, of_value, w
 pub record IsChild (changes : List Change) (x : ℕ) : Type 0 where
   pub nibble : x < 16
   pub untouched : changes_behind (x ∷ []) changes ≡ []
-
-no_change : (cs : List Change) → is_untouched cs ≡ true → cs ≡ []
-no_change [] e = refl
-no_change (c ∷ cs) e = cc
 
 pub merged_is_child : (ref : Option ValueRef) (kids : ℕ → Seen) (changes : List Change) (x : ℕ) → merged_child ref kids changes ≡ Some x → IsChild changes x
 merged_is_child ref kids changes x is =
@@ -47,7 +43,7 @@ merged_is_child ref kids changes x is =
     one : (y : ℕ) → y < 16 → (b : Bool) → is_untouched (changes_behind (y ∷ []) changes) ≡ b → (if b then Some y else None) ≡ Some x → IsChild changes x
     one y small true t k =
         let same : y ≡ x = cc in
-        subst (λ z. IsChild changes z) same (record { nibble = small; untouched = no_change (changes_behind (y ∷ []) changes) t })
+        subst (λ z. IsChild changes z) same (record { nibble = small; untouched = untouched_none (changes_behind (y ∷ []) changes) t })
     one y small false t k = cc
 
     go : (value : Bool) (ns : List ℕ) → ((y : ℕ) → IsIn ns y → y < 16) → lone_child value ns changes ≡ Some x → IsChild changes x

@@ -1,7 +1,8 @@
 -- What a batch makes of a trie, with what it leaves as it is, is all that stands in the new trie but the record of its top.
 use Rattle.std.proofs.Common.{◌≡◌, ◌≢◌, ℕ, ◌+◌, ◌-◌, ◌==◌, true, false, if◌then◌else◌, List, [], ◌∷◌, sum_by, Option, None, Some, option_map, refl, sym, ◌∙◌, ap, subst, arith}
 use Rattle.byte_model.specs.Node.{ValueRef}
-use Rattle.byte_model.proofs.Below.{sum_below-agree}
+use Rattle.byte_model.proofs.Below.{sum_below-agree, sum_below-plus}
+use Rattle.byte_model.proofs.Lists.{some_items}
 use Rattle.trie_model.specs.State.{Row}
 use Rattle.trie_model.specs.Tree as tree
 use Rattle.trie_model.specs.Tree.{Tree, below, ends_here, common_prefix, tree_of}
@@ -21,14 +22,10 @@ use Rattle.update_model.proofs.Joints.{AreKids}
 use Rattle.update_model.proofs.Layable.{no_row, one_row, before_branch}
 use Rattle.update_model.proofs.LaidTrees.{ref_after-rows}
 use Rattle.update_model.proofs.NewTrees.{fork_of_shared, top_seen-rows, are-kids, updated-rows}
-use Rattle.update_model.proofs.NibbleSums.{sum_below-plus}
 use Rattle.update_model.proofs.Weights.{by_touch, by_merge, whole, inner, kept}
 use Rattle.update_model.proofs.LaidBelow.{Laying, laying-below, laying-same}
 use Rattle.update_model.proofs.JointTexts.{kid_inner, joint-weighs}
 use Rattle.update_model.proofs.LaidTexts.{made, node-made, value_made-rows, laid-made}
-
-some_change : (c : Change) (cs : List Change) → c ∷ cs ≢ []
-some_change c cs e = cc
 
 module _ (f : List ℕ → ℕ) where
   abbrev MadeAll : List Row → Type 0
@@ -128,7 +125,7 @@ module _ (f : List ℕ → ℕ) where
         touched : (c : Change) (l : List Change) → cs x ≡ c ∷ l → made f (outcomes x) + kept f (kids x) (c ∷ l) ≡ inner f (new_tree x)
         touched c l is =
             ap (λ (l : List Change). made f (outcomes x) + kept f (kids x) l) (sym is)
-            ∙ further x (cs x) (below (x ∷ []) later) (subst (λ (l : List Change). l ≢ []) (sym is) (some_change c l)) (laying-below (x ∷ []) rows changes later laying)
+            ∙ further x (cs x) (below (x ∷ []) later) (subst (λ (l : List Change). l ≢ []) (sym is) (some_items c l)) (laying-below (x ∷ []) rows changes later laying)
 
         plain : (l : List Change) → cs x ≡ l → made f (kid_outcome l (outcomes x)) + by_touch l (whole f (kids x)) (kept f (kids x) l) ≡ kid_inner f (kid_after (children x) l (outcomes x)) (new_tree x)
         plain [] none =

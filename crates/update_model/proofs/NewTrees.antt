@@ -5,7 +5,7 @@ use Rattle.std.proofs.lemmas.Bool.Decides.{nat_tests}
 use Rattle.sha2.specs.Sha256.{sha256}
 use Rattle.byte_model.specs.Node.{ValueRef, cost_of}
 use Rattle.byte_model.specs.Below.{sum_below}
-use Rattle.byte_model.proofs.Below.{sum_below-agree, sum_below-zero}
+use Rattle.byte_model.proofs.Below.{sum_below-agree, sum_below-zero, sum_below-plus, sum_below-single}
 use Rattle.trie_model.specs.State.{Row}
 use Rattle.trie_model.specs.Tree as tree
 use Rattle.trie_model.specs.Tree.{Tree, below, ends_here, common_prefix, tree_of}
@@ -26,7 +26,6 @@ use Rattle.update_model.specs.Tops.{Top, extension, top_of}
 use Rattle.update_model.specs.Joins.{Kid, known, is_there, kid_top, there, joint}
 use Rattle.update_model.specs.Updates.{Outcome, no_branch, laid, kid_kept, kid_after, digest_or_none, top_seen, merged_kids, parts, kids_after, updated}
 use Rattle.update_model.proofs.FoundRows.{InOrder, in_order-below}
-use Rattle.update_model.proofs.NibbleSums.{sum_below-plus, sum_below-single}
 use Rattle.update_model.proofs.Joints.{KidOf, named_usage, is_known, is_there-of, AreKids, joint-rows}
 use Rattle.update_model.proofs.LaidTrees.{ref_after-rows, untouched-below, laid-rows}
 use Rattle.update_model.proofs.Layable.{no_row, one_row, before_branch}

@@ -1,8 +1,7 @@
 -- What a batch makes of what is seen of a state, over a table that has the texts of the touched places: the trie of the state after it.
-use Rattle.std.proofs.Common.{◌≡◌, ◌≢◌, ℕ, ◌+◌, ◌∷◌, ◌==◌, ◌&&◌, ◌||◌, Bool, true, false, cond, if◌then◌else◌, not, List, [], map, length, T, Option, None, Some, is_some, is_none, refl, sym, ◌∙◌, ap, ap₂, subst, arith, nat_cmp}
+use Rattle.std.proofs.Common.{◌≡◌, ◌≢◌, ℕ, ◌+◌, ◌∷◌, ◌==◌, ◌&&◌, ◌||◌, Bool, true, false, cond, if◌then◌else◌, not, List, [], map, length, Option, None, Some, is_some, is_none, refl, sym, ◌∙◌, ap, ap₂, subst, arith}
 use Rattle.std.specs.List.{AllByRecursion, count_by}
-use Rattle.std.specs.FinMap.{entries, entries_sorted, get, find, contains_key, is_sorted}
-use Rattle.std.specs.Cmp.Lexicographic.{slice_cmp}
+use Rattle.std.specs.FinMap.{entries, get, contains_key}
 use Rattle.std.proofs.lemmas.List.Sums.{sum_by-cons}
 use Rattle.sha2.specs.Sha256.{sha256}
 use Rattle.byte_model.specs.Nibbles.{nibbles}
@@ -14,7 +13,7 @@ use Rattle.trie_model.specs.Root.{Table, root, root_of, text_at, subtree_at, pla
 use Rattle.trie_model.proofs.Members.{IsIn, all_at}
 use Rattle.trie_model.proofs.Children.{root_is_place}
 use Rattle.trie_model.proofs.Costs.{subtree_at-root}
-use Rattle.trie_model.proofs.Order.{rising-rows_of, first_test, second_test}
+use Rattle.trie_model.proofs.Order.{rising-rows_of}
 use Rattle.trie_model.proofs.Pairs.{small-rows_of}
 use Rattle.trie_model.proofs.Rests.{below-nil}
 use Rattle.trie_model.proofs.Trees.{tree_of-nil}
@@ -24,15 +23,13 @@ use Rattle.visit_model.specs.Shown.{shown}
 use Rattle.visit_model.proofs.ShownFits.{IsThere, FitsBelow, state_fits}
 use Rattle.visit_model.proofs.ShownStates.{root_looked_up, no_root}
 use Rattle.batch_model.specs.Changes.{Changes, Change, IsChange, AreChanges, after, after_each, change_rows, found_at}
-use Rattle.batch_model.proofs.Laying.{find_before}
 use Rattle.change_model.specs.Places.{above, is_branch, all_stand_below, leads_to, is_touched, remains_alone, touched_places}
 use Rattle.change_model.specs.Ledger.{fresh, gone}
-use Rattle.change_model.specs.Visits.{is_untouched}
 use Rattle.change_model.specs.Along.{SameAlong}
 use Rattle.change_model.specs.Tables.{HoldsPlaces}
 use Rattle.change_model.proofs.Alone.{alone, touched, touched-root}
 use Rattle.change_model.proofs.Filtered.{in_filter}
-use Rattle.change_model.proofs.Laid.{laid-after, same_path, test_of_path, found_at-get, found_at-nibbles, key_of-nibbles}
+use Rattle.change_model.proofs.Laid.{laid-after, test_of_path, found_at-get, key_of-nibbles}
 use Rattle.change_model.proofs.Left.{apart-change_rows}
 use Rattle.change_model.proofs.Seeing.{IsHeldText, HeldAlong, seen_along}
 use Rattle.change_model.proofs.Touched.{small-after}
@@ -42,11 +39,12 @@ use Rattle.update_model.specs.Tops.{top_of, top_digest}
 use Rattle.update_model.proofs.Joints.{top_digest-top_of}
 use Rattle.update_model.specs.Updates.{updated}
 use Rattle.update_model.proofs.FoundRows.{InOrder}
-use Rattle.update_model.proofs.LaidBelow.{SmallChanges, Distinct}
+use Rattle.update_model.proofs.LaidBelow.{SmallChanges}
 use Rattle.update_model.proofs.NewTrees.{updated-rows}
 use Rattle.update_model.proofs.Counts.{fresh-rows, gone-rows}
 use Rattle.update_model.proofs.SameUpdates.{updated-same}
 pub use Rattle.change_model.proofs.Visited.{paths-change_rows}
+use Rattle.change_model.proofs.Merging.{touched_some}
 
 -- ---- the changes of a batch
 
@@ -56,21 +54,6 @@ small-change_rows changes are = go (entries changes) are.each
     go : (es : List Change) → AllByRecursion IsChange es → SmallChanges (map (λ change. (nibbles change.0, change.1)) es)
     go [] h = tt
     go (e ∷ es) h = (AreNibbles-nibbles e.0 h.0.key, go es h.1)
-
-pub distinct-change_rows : (changes : Changes) → Distinct (change_rows changes)
-unfolding Distinct
-distinct-change_rows changes = go (entries changes) (entries_sorted changes)
-  where
-    go : (es : List Change) → T (is_sorted (slice_cmp nat_cmp) es) → Distinct (map (λ change. (nibbles change.0, change.1)) es)
-    go [] h = tt
-    go (e ∷ es) h = (
-      found_at-nibbles (nibbles e.0) es
-          ∙ elim (same_path (nibbles (key_of (nibbles e.0))) (nibbles e.0)) as (λ b. (if b then find (slice_cmp nat_cmp) (key_of (nibbles e.0)) es else None) ≡ None) [
-            | true ↦ ap (λ (k : List ℕ). find (slice_cmp nat_cmp) k es) (key_of-nibbles e.0) ∙ find_before e.0 es (first_test _ _ h)
-            | false ↦ refl
-          ],
-      go es (second_test _ _ h),
-    )
 
 -- ---- rows of states
 
@@ -107,20 +90,16 @@ counted-keys state test (e ∷ es) =
 pub fresh-over_state : (state : State) (changes : Changes) → AreChanges changes → change_rows changes ≢ [] → (updated (shown (subtree_at state [])) (change_rows changes)).fresh ≡ fresh state changes
 fresh-over_state state changes are some =
     ap (λ t. (updated (shown t) (change_rows changes)).fresh) (subtree_at-root state)
-    ∙ fresh-rows (rows_of state) (change_rows changes) some (distinct-change_rows changes) (small-change_rows changes are)
+    ∙ fresh-rows (rows_of state) (change_rows changes) some (apart-change_rows changes) (small-change_rows changes are)
     ∙ counted-keys state (λ there becomes. is_some becomes && not there) (entries changes)
 
 pub gone-over_state : (state : State) (changes : Changes) → AreChanges changes → change_rows changes ≢ [] → (updated (shown (subtree_at state [])) (change_rows changes)).gone ≡ gone state changes
 gone-over_state state changes are some =
     ap (λ t. (updated (shown t) (change_rows changes)).gone) (subtree_at-root state)
-    ∙ gone-rows (rows_of state) (change_rows changes) some (distinct-change_rows changes) (small-change_rows changes are)
+    ∙ gone-rows (rows_of state) (change_rows changes) some (apart-change_rows changes) (small-change_rows changes are)
     ∙ counted-keys state (λ there becomes. is_none becomes && there) (entries changes)
 
 -- ---- what is seen (the first four are in change_model/proofs/Visited.antt, not pub)
-
-untouched-some : (changes : List Change) → changes ≢ [] → is_untouched changes ≡ false
-untouched-some [] some = absurd (some refl)
-untouched-some (c ∷ cs) some = refl
 
 module _ (state : State) (changes : Changes) (is : IsState state) (are : AreChanges changes) (some : change_rows changes ≢ []) (table : Table) (holds : HoldsPlaces table state (touched_places state [] changes)) where
   abbrev rows : List Row
@@ -151,7 +130,7 @@ module _ (state : State) (changes : Changes) (is : IsState state) (are : AreChan
   unfolding subtree_at
   nonzero there e =
       all_at (λ (place : List ℕ). sha256 (text_at state place) ≢ zero_digest) (touched_places state [] changes) [] holds.nonzero
-      (in_filter (is_touched state [] changes) (places_of state) [] (subst (λ t. IsIn (places t) []) (sym whole) (root_is_place rows (rows_there there))) (touched-is_touched [] ∙ touched-root rows cs later (untouched-some cs some)))
+      (in_filter (is_touched state [] changes) (places_of state) [] (subst (λ t. IsIn (places t) []) (sym whole) (root_is_place rows (rows_there there))) (touched-is_touched [] ∙ touched-root rows cs later (touched_some cs some)))
       (ap (λ t. sha256 (text t)) whole ∙ e)
     where
       rows_there : IsThere (tree_of rows) → rows ≢ []
@@ -161,7 +140,7 @@ module _ (state : State) (changes : Changes) (is : IsState state) (are : AreChan
   along tree is_tree there =
       subst (λ (s : Seen). SameAlong (shown tree) s cs) (sym (root_looked_up table (sha256 (text tree)) (subst (λ t. sha256 (text t) ≢ zero_digest) is_tree (nonzero (subst IsThere (sym is_tree) there)))))
       (seen_along table tree cs 0 false (omega arith) (subst (FitsBelow 0 false) (subtree_at-root state ∙ is_tree) (state_fits state is))
-      (subst (λ t. HeldAlong table t cs) is_tree (held_along table rows cs later (untouched-some cs some) (apart-change_rows changes) (laid-after state changes) (small-after state changes is are) held)) there)
+      (subst (λ t. HeldAlong table t cs) is_tree (held_along table rows cs later (touched_some cs some) (apart-change_rows changes) (laid-after state changes) (small-after state changes is are) held)) there)
 
   same_along : (tree : Tree) → tree_of rows ≡ tree → SameAlong (shown tree) (seen table (root_of tree)) cs
   unfolding SameAlong shown root_of

@@ -6,6 +6,7 @@ use Rattle.std.specs.Cmp.Lexicographic.{pointwise}
 use Rattle.std.proofs.lemmas.List.{append_cancel_left}
 use Rattle.std.proofs.lemmas.List.Sums.{sum_by-cons}
 use Rattle.byte_model.proofs.Lists.{first_same}
+use Rattle.byte_model.proofs.Below.{sum_below-none}
 use Rattle.trie_model.specs.State.{Row}
 use Rattle.trie_model.specs.Tree.{below, ends_here, common_prefix, tree_of}
 use Rattle.trie_model.specs.Texts.{places}
@@ -19,7 +20,6 @@ use Rattle.change_model.proofs.Forks.{Fork, Stands, at_root, at_fork, behind_for
 use Rattle.change_model.proofs.Laid.{same_tests}
 use Rattle.change_model.proofs.Left.{has_rows}
 use Rattle.change_model.proofs.Touched.{above-behind, split_last}
-use Rattle.update_model.proofs.NibbleSums.{sum_below-none}
 pub use Rattle.change_model.proofs.Touching.{sum_by-branch, sum_by-extension}
 use Rattle.change_model.proofs.Touched.{any_of_in, in_of_any}
 

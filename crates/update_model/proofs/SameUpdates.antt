@@ -2,13 +2,13 @@
 use Rattle.std.proofs.Common.{◌≡◌, ◌≢◌, ℕ, ◌+◌, ◌-◌, ◌<◌, ◌==◌, true, false, if◌then◌else◌, List, [], ◌∷◌, Option, None, Some, refl, sym, ◌∙◌, ap, ap₂}
 use Rattle.byte_model.specs.Node.{ValueRef}
 use Rattle.byte_model.proofs.Below.{sum_below-agree}
+use Rattle.byte_model.proofs.Lists.{some_items}
 use Rattle.trie_model.proofs.Rests.{equal_of_test}
 use Rattle.visit_model.specs.Seen.{Seen, nothing, missing, bad, leaf, branch, extension, stated_usage}
 use Rattle.batch_model.specs.Changes.{Change}
 use Rattle.change_model.specs.Visits.{changes_behind, change_at, merged_child, if_touched, merge_usage, branch_cost, extension_cost}
 use Rattle.change_model.specs.Along.{digest_of, SameName, SameTop, SameAlong}
 use Rattle.update_model.specs.Tops as top
-use Rattle.update_model.specs.Tops.{Top}
 use Rattle.update_model.specs.Joins.{Kid, known, Joint, joint}
 use Rattle.update_model.specs.Updates.{losing, node_outcome, ref_after, laid, kid_kept, kid_after, kid_outcome, digest_or_none, top_seen, lost_alone, merged_kids, merged_lost, parts, kids_after, branch_outcome, updated}
 use Rattle.update_model.proofs.LaidSteps.{laid-agree}
@@ -54,16 +54,13 @@ merged_kids-same children others (Some y) f g x same e =
 abbrev SameFurther : Seen → Seen → List Change → Type 0
 SameFurther s other changes = SameAlong s other changes → changes ≢ [] → updated other changes ≡ updated s changes
 
-some_changes : (c : Change) (cs : List Change) → c ∷ cs ≢ []
-some_changes c cs e = cc
-
 kid_after-same : (s other : Seen) (cs : List Change) → SameFurther s other cs → SameBelow s other cs → kid_after other cs (updated other cs) ≡ kid_after s cs (updated s cs)
 kid_after-same s other [] further same = ap kid_kept (sym same)
-kid_after-same s other (c ∷ cs) further same = ap (λ o. known o.top) (further same (some_changes c cs))
+kid_after-same s other (c ∷ cs) further same = ap (λ o. known o.top) (further same (some_items c cs))
 
 kid_outcome-same : (s other : Seen) (cs : List Change) → SameFurther s other cs → SameBelow s other cs → kid_outcome cs (updated other cs) ≡ kid_outcome cs (updated s cs)
 kid_outcome-same s other [] further same = refl
-kid_outcome-same s other (c ∷ cs) further same = further same (some_changes c cs)
+kid_outcome-same s other (c ∷ cs) further same = further same (some_items c cs)
 
 -- ---- the whole
 

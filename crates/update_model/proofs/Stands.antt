@@ -3,14 +3,14 @@ use Rattle.std.proofs.Common.{◌≡◌, ◌≢◌, ℕ, zero, suc, ◌+◌, ◌
 use Rattle.std.specs.Prelude.{⊤, nat_eq}
 use Rattle.std.specs.Cmp.Lexicographic.{pointwise}
 use Rattle.std.specs.FinMap.{get}
-use Rattle.std.proofs.lemmas.Bool.{and_parts}
+use Rattle.std.proofs.lemmas.Bool.{and_parts, not-true}
 use Rattle.std.proofs.lemmas.Bool.Decides.{nat_tests}
 use Rattle.std.proofs.lemmas.Result.{IfOk-at_ok}
 use mathlib.Core.Path.{fun_ext}
 use Rattle.byte_model.specs.Nibbles.{AreBytes}
 use Rattle.byte_model.specs.PackedPath.{longest_path}
 use Rattle.byte_model.specs.Node as node
-use Rattle.byte_model.specs.Node.{Node, ValueRef, IsShaped, longest_value}
+use Rattle.byte_model.specs.Node.{Node, ValueRef, IsShaped}
 use Rattle.byte_model.specs.Laws.{FitsRecord}
 use Rattle.record_model.specs.Records.{RecordFault, IsRecord, HasNibblesOnly, record_in}
 use Rattle.record_model.specs.Fits.{fits_at, has_place, is_whole}
@@ -74,20 +74,16 @@ sound_in bytes n usage h e =
     let read : IsRecord n usage bytes × HasNibblesOnly n = IfOk-at_ok (λ r. IsRecord r.0 r.1 bytes × HasNibblesOnly r.0) e (record_in-found bytes h).given in
     (read.0.fields, read.0.shape)
 
-not_true : (b : Bool) → not b ≡ true → b ≡ false
-not_true true e = cc
-not_true false e = refl
-
 leaf_stands : (depth : ℕ) (after_extension : Bool) (path : List ℕ) (ref : ValueRef) → IsSound (node.leaf path ref) → has_place depth after_extension (node.leaf path ref) ≡ true → LeafStands depth after_extension path ref
 unfolding has_place
 leaf_stands depth after_extension path ref sound place =
     let ends = and_parts (is_whole (depth + length path) && nat_le (depth + length path) longest_path) (not after_extension) place in
     let room : nat_le (depth + length path) longest_path ≡ true = (and_parts (is_whole (depth + length path)) (nat_le (depth + length path) longest_path) ends.0).1 in
-    record { nibbles = sound.0.0; short = grind (arith, nat_tests); value = sound.1; not_after = not_true after_extension ends.1 }
+    record { nibbles = sound.0.0; short = grind (arith, nat_tests); value = sound.1; not_after = not-true after_extension ends.1 }
 
 extension_after : (depth : ℕ) (after_extension : Bool) (path child : List ℕ) → has_place depth after_extension (node.extension path child) ≡ true → after_extension ≡ false
 unfolding has_place
-extension_after depth after_extension path child place = not_true after_extension (and_parts (nat_lt (depth + length path) longest_path) (not after_extension) place).1
+extension_after depth after_extension path child place = not-true after_extension (and_parts (nat_lt (depth + length path) longest_path) (not after_extension) place).1
 
 not_nothing : (s : Seen) (digest : List ℕ) → digest_of s ≡ Some digest → s ≢ nothing
 unfolding digest_of

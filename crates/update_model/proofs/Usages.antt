@@ -1,21 +1,19 @@
 -- What a batch makes uses no more than what is seen states, and a bounded amount for each change.
-use Rattle.std.proofs.Common.{◌≡◌, ◌≢◌, ℕ, zero, suc, ◌+◌, ◌-◌, ◌*◌, ◌^◌, ◌<◌, ◌≤◌, ◌==◌, if◌then◌else◌, true, false, List, [], ◌∷◌, Option, None, Some, inl, inr, refl, ap, subst, arith}
+use Rattle.std.proofs.Common.{◌≡◌, ◌≢◌, ℕ, zero, suc, ◌+◌, ◌*◌, ◌^◌, ◌<◌, ◌≤◌, ◌==◌, if◌then◌else◌, true, false, List, [], ◌∷◌, Option, None, Some, inl, inr, refl, subst, arith}
 use Rattle.std.proofs.lemmas.Bool.{cases_lt}
 use Rattle.byte_model.specs.Below.{sum_below}
 use Rattle.byte_model.specs.PackedPath.{longest_path}
 use Rattle.byte_model.specs.Node.{ValueRef, longest_value}
 use Rattle.byte_model.proofs.Paths.{length-packed}
+use Rattle.byte_model.proofs.Below.{sum_below-least, sum_below-at}
 use Rattle.change_model.specs.Visits.{leaf_cost, branch_cost, extension_cost}
 use Rattle.update_model.specs.Tops.{Top, empty, leaf, branch, extension, lowered, top_behind, top_usage}
 use Rattle.update_model.specs.Joins.{Kid, named, known, is_there, kid_top, kid_usage, there, joint, joint_by}
 use Rattle.update_model.proofs.TopsBelow.{NoBranch}
 use Rattle.update_model.proofs.Joined.{only-holds}
+use Rattle.update_model.specs.Growth.{growth}
 
 -- ---- what a change may add
-
--- the most by which one change below a depth makes the usage grow: its value and a branch, and something for each nibble that is left
-unfoldable pub growth : ℕ → ℕ
-growth depth = 2 ^ 23 + 512 * (suc longest_path - depth)
 
 pub growth-further : (depth : ℕ) → depth ≤ longest_path → growth depth ≡ growth (depth + 1) + 512
 unfolding growth
@@ -37,28 +35,6 @@ grows (suc (suc n)) further each total base h k l m = absurd (omega arith)
 
 -- ---- sums
 
-pub sum-at : (f : ℕ → ℕ) (x n : ℕ) → x < n → f x ≤ sum_below f n
-unfolding sum_below
-sum-at f x zero h = absurd (omega arith)
-sum-at f x (suc n) h = elim (cases_lt x n) [
-  | inl less ↦ (let further = sum-at f x n less in omega arith)
-  | inr least ↦ (let same : n ≡ x = omega arith in let last = ap f same in omega arith)
-]
-
--- a sum so far is no more than the whole
-pub sum-so_far : (f : ℕ → ℕ) (m n : ℕ) → m ≤ n → sum_below f m ≤ sum_below f n
-unfolding sum_below
-sum-so_far f m zero h = let same : m ≡ 0 = omega arith in let all = ap (sum_below f) same in omega arith
-sum-so_far f m (suc n) h = elim (cases_lt n m) [
-  | inl less ↦ (let same : m ≡ suc n = omega arith in let all = ap (sum_below f) same in omega arith)
-  | inr more ↦ (let further = sum-so_far f m n more in omega arith)
-]
-
-pub sum-le : (f g : ℕ → ℕ) (n : ℕ) → ((x : ℕ) → x < n → f x ≤ g x) → sum_below f n ≤ sum_below g n
-unfolding sum_below
-sum-le f g zero h = omega arith
-sum-le f g (suc n) h = let further = sum-le f g n (λ x l. h x (omega arith)) in let last = h n (omega arith) in omega arith
-
 -- where one of them may be more
 pub sum-one_le : (f g : ℕ → ℕ) (y more n : ℕ) → ((x : ℕ) → x < n → x ≢ y → f x ≤ g x) → f y ≤ g y + more → sum_below f n ≤ sum_below g n + more
 unfolding sum_below
@@ -66,10 +42,10 @@ sum-one_le f g y more zero others here = omega arith
 sum-one_le f g y more (suc n) others here = elim (cases_lt y n) [
   | inl less ↦ (let further = sum-one_le f g y more n (λ x l. others x (omega arith)) here in let last = others n (omega arith) (omega arith) in omega arith)
   | inr least ↦ elim (cases_lt n y) [
-    | inl above ↦ (let further = sum-le f g n (λ x l. others x (omega arith) (omega arith)) in let last = others n (omega arith) (omega arith) in omega arith)
+    | inl above ↦ (let further = sum_below-least f g n (λ x l. others x (omega arith) (omega arith)) in let last = others n (omega arith) (omega arith) in omega arith)
     | inr same_le ↦ (
         let same : y ≡ n = omega arith in
-        let further = sum-le f g n (λ x l. others x (omega arith) (omega arith)) in
+        let further = sum_below-least f g n (λ x l. others x (omega arith) (omega arith)) in
         let last : f n ≤ g n + more = subst (λ z. f z ≤ g z + more) same here in
         omega arith)
   ]
@@ -155,7 +131,7 @@ usage-joint ref kids used = go ref refl (there kids) refl
     go None r [] e = rw (r, e) (omega arith)
     go None r (x ∷ []) e =
         let small = (only-holds (λ x. is_there (kids x)) 16 x e).0 in
-        let one = sum-at (λ x. kid_usage (kids x)) x 16 small in
+        let one = sum_below-at (λ x. kid_usage (kids x)) x 16 small in
         let top = usage-lowered x (kid_top (kids x)) in
         let known_top = lone (kids x) in
         rw (r, e) (omega arith)

@@ -1,8 +1,9 @@
 -- What a batch makes of what is seen uses no more than that states, and so much more for each change; and so do the sums on the way.
 use Rattle.std.proofs.Common.{◌≡◌, ◌≢◌, ℕ, ◌+◌, ◌-◌, ◌*◌, ◌<◌, ◌≤◌, ◌==◌, if◌then◌else◌, Bool, true, false, List, [], ◌∷◌, length, Option, None, Some, refl, sym, ◌∙◌, ap, subst, arith}
+use Rattle.std.proofs.lemmas.Bool.{ne_eqb}
 use Rattle.byte_model.specs.Below.{sum_below}
 use Rattle.byte_model.specs.Node.{ValueRef, longest_value}
-use Rattle.byte_model.proofs.Below.{sum_below-add_mul}
+use Rattle.byte_model.proofs.Below.{sum_below-add_mul, sum_below-least, sum_below-part, sum_below-at}
 use Rattle.trie_model.specs.Texts.{value_ref}
 use Rattle.visit_model.specs.Seen as seen
 use Rattle.visit_model.specs.Seen.{Seen, stated_usage}
@@ -14,14 +15,16 @@ use Rattle.update_model.specs.Joins.{Kid, known, kid_usage, joint}
 use Rattle.update_model.specs.Sound.{AreBelow, StandsAt}
 use Rattle.update_model.specs.Updates.{Outcome, ref_after, parted, behind_outcome, fork_outcome, laid, no_branch, kid_kept, kid_after, kids_after, merged_kids, top_seen, digest_or_none, parts, updated}
 use Rattle.trie_model.proofs.Rests.{equal_of_test}
-use Rattle.update_model.proofs.Behind.{one_if, length-behind, below-nibble, below-prefix, below-depth, test_same, test_apart, none-behind, changes_behind-nil, changes_behind-append}
+use Rattle.change_model.proofs.Alone.{none-behind}
+use Rattle.update_model.proofs.Behind.{one_if, length-behind, below-nibble, below-prefix, below-depth, test_same, changes_behind-nil, changes_behind-append}
 use Rattle.update_model.proofs.Stands.{StandsAlong, where_touched_stands}
 use Rattle.update_model.proofs.StandsAfter.{short-after}
 use Rattle.update_model.proofs.Unrefused.{IsDone, missing-refused, bad-refused, leaf-done, branch-done, extension-done, alone-leaf, alone-extension}
 use Rattle.update_model.proofs.TopsBelow.{NoBranch}
 use Rattle.update_model.proofs.LaidKeeps.{OfChild, PassesOn, laid-keeps}
 use Rattle.update_model.proofs.Joined.{ShortValue}
-use Rattle.update_model.proofs.Usages.{growth, growth-further, growth-least, grows, sum-at, sum-so_far, sum-le, sum-one_le, sum-none, sum-only, value_cost, branch_cost-value, leaf_cost-nil, leaf_cost-cons, extension_cost-cons, usage-joint}
+use Rattle.update_model.proofs.Usages.{growth-further, growth-least, grows, sum-one_le, sum-none, sum-only, value_cost, branch_cost-value, leaf_cost-nil, leaf_cost-cons, extension_cost-cons, usage-joint}
+use Rattle.update_model.specs.Growth.{growth}
 
 -- ---- a value that is set
 
@@ -60,7 +63,7 @@ module _ (depth : ℕ) (changes : List Change) (below : AreBelow depth changes) 
 
   sums : sum_below (λ x. kid_usage (kids x)) 16 ≤ sum_below bases 16 + number_behind changes * growth (depth + 1)
   sums =
-      let first = sum-le (λ x. kid_usage (kids x)) (λ x. bases x + length (changes_behind (x ∷ []) changes) * growth (depth + 1)) 16 each in
+      let first = sum_below-least (λ x. kid_usage (kids x)) (λ x. bases x + length (changes_behind (x ∷ []) changes) * growth (depth + 1)) 16 each in
       let split = sum_below-add_mul bases (λ x. length (changes_behind (x ∷ []) changes)) (growth (depth + 1)) 16 in
       omega arith
 
@@ -82,7 +85,7 @@ module _ (depth : ℕ) (changes : List Change) (below : AreBelow depth changes) 
   -- and so do the sums up to a branch's usage
   sums-grow : (n : ℕ) → n ≤ 16 → branch_cost after + (used + sum_below (λ x. kid_usage (kids x)) n) ≤ base + length changes * growth depth
   sums-grow n h =
-      let part = sum-so_far (λ x. kid_usage (kids x)) n 16 h in
+      let part = sum_below-part (λ x. kid_usage (kids x)) n 16 h in
       let cost = branch_cost-value after in
       all-grow (branch_cost after + (used + sum_below (λ x. kid_usage (kids x)) n)) (omega arith)
 
@@ -127,7 +130,7 @@ reached-behind most empty changes over = let none = sum-none (λ x. 0) 16 (λ x.
 reached-behind most (leaf [] ref) changes over = let none = sum-none (λ x. 0) 16 (λ x. refl) in let cost = leaf_cost-nil ref in omega arith
 reached-behind most (leaf (y ∷ path) ref) changes over =
     let f : ℕ → ℕ = λ x. reached most (top_behind x (leaf (y ∷ path) ref)) (changes_behind (x ∷ []) changes) in
-    let one = sum-only f y 16 (λ x apart. rw (test_apart x y apart) refl) in
+    let one = sum-only f y 16 (λ x apart. rw (ne_eqb x y apart) refl) in
     let here : f y ≡ leaf_cost path ref = rw (test_same y) refl in
     let less = (leaf_cost-cons y path ref).0 in
     omega arith
@@ -135,7 +138,7 @@ reached-behind most (branch digest used) changes over = absurd over
 reached-behind most (extension [] digest used) changes over = let none = sum-none (λ x. 0) 16 (λ x. refl) in omega arith
 reached-behind most (extension (y ∷ path) digest used) changes over =
     let f : ℕ → ℕ = λ x. reached most (top_behind x (extension (y ∷ path) digest used)) (changes_behind (x ∷ []) changes) in
-    let one = sum-only f y 16 (λ x apart. rw (test_apart x y apart) refl) in
+    let one = sum-only f y 16 (λ x apart. rw (ne_eqb x y apart) refl) in
     let here : f y ≡ reached most (lowered path (branch digest used)) (changes_behind (y ∷ []) changes) = rw (test_same y) refl in
     let less = (extension_cost-cons y path).0 in
     let low = reached-before most path digest used (changes_behind (y ∷ []) changes) in
@@ -180,7 +183,7 @@ module _ (most : ℕ) where
     pub fork-kids : (x : ℕ) → x < 16 → kid_usage (parted_kids x) ≤ reached most old changes + length changes * growth depth
     fork-kids x small =
         let all = fork-sums 16 (omega arith) in
-        let one = sum-at (λ x. kid_usage (parted_kids x)) x 16 small in
+        let one = sum_below-at (λ x. kid_usage (parted_kids x)) x 16 small in
         omega arith
 
   pub passes-grows : (child : List Change → Outcome) → PassesOn Grows child
@@ -259,9 +262,9 @@ module _ (depth usage : ℕ) (ref : Option ValueRef) (children : ℕ → Seen) (
   bases-sum = go (merged_child ref children changes)
     where
       go : (m : Option ℕ) → sum_below (λ x. visited x + merged_part m x) 16 ≤ sum_below visited 16 + merge_usage children m
-      go None = let all = sum-le (λ x. visited x + 0) visited 16 (λ x h. omega arith) in omega arith
+      go None = let all = sum_below-least (λ x. visited x + 0) visited 16 (λ x h. omega arith) in omega arith
       go (Some y) = sum-one_le (λ x. visited x + (if x == y then stated_usage (children x) else 0)) visited y (stated_usage (children y)) 16
-          (λ x h apart. rw (test_apart x y apart) (omega arith)) (rw (test_same y) (omega arith))
+          (λ x h apart. rw (ne_eqb x y apart) (omega arith)) (rw (test_same y) (omega arith))
 
   whole : value_cost ref + (usage - parts ref children changes + sum_below bases 16) ≤ usage
   whole =
@@ -280,12 +283,12 @@ module _ (depth usage : ℕ) (ref : Option ValueRef) (children : ℕ → Seen) (
   pub branch-kids : (x : ℕ) → x < 16 → kid_usage (later x) ≤ usage + length changes * growth depth
   branch-kids x small =
       let all = branch-sums 16 (omega arith) in
-      let one = sum-at (λ x. kid_usage (later x)) x 16 small in
+      let one = sum_below-at (λ x. kid_usage (later x)) x 16 small in
       omega arith
 
 -- ---- what is seen
 
-reached-extension : (path digest : List ℕ) (usage stated : ℕ) (changes : List Change) → extension_cost path + if_touched (changes_behind path changes) stated ≤ usage → reached stated (extension path digest (usage - extension_cost path)) changes ≤ usage
+pub reached-extension : (path digest : List ℕ) (usage stated : ℕ) (changes : List Change) → extension_cost path + if_touched (changes_behind path changes) stated ≤ usage → reached stated (extension path digest (usage - extension_cost path)) changes ≤ usage
 unfolding reached
 reached-extension path digest usage stated changes least = go (changes_behind path changes) least
   where

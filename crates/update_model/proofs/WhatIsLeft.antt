@@ -1,7 +1,7 @@
 -- Something stands at a place after a batch exactly where something is left there.
 use Rattle.std.proofs.Common.{◌≡◌, ◌≢◌, ℕ, ◌+◌, ◌-◌, ◌<◌, ◌==◌, if◌then◌else◌, not, Bool, true, false, List, [], ◌∷◌, length, Option, None, Some, is_some, inl, inr, ◌⊎◌, refl, sym, ◌∙◌, ap, ap₂, subst, arith}
 use Rattle.std.specs.Prelude.{◌||◌}
-use Rattle.std.proofs.lemmas.Bool.{false≢true}
+use Rattle.std.proofs.lemmas.Bool.{false≢true, or_cases, ne_eqb}
 use Rattle.byte_model.specs.Node.{ValueRef}
 use Rattle.trie_model.proofs.Rests.{equal_of_test}
 use Rattle.visit_model.specs.Seen as seen
@@ -16,13 +16,14 @@ use Rattle.update_model.specs.Tops.{Top, empty, leaf, branch, extension, lowered
 use Rattle.update_model.specs.Joins.{Kid, known, is_there, kid_top, there, joint}
 use Rattle.update_model.specs.Sound.{AreBelow, StandsAt}
 use Rattle.update_model.specs.Updates.{Outcome, ref_after, parted, behind_outcome, laid, no_branch, kid_kept, kid_after, kids_after, merged_kids, top_seen, digest_or_none, parts, updated}
-use Rattle.update_model.proofs.Behind.{below-nibble, below-prefix, changes_behind-append, changes_behind-nil, none-behind, is_set, or_true, true_or, test_same, test_apart, sets-behind, sets-here, sets_some-behind}
+use Rattle.update_model.proofs.Behind.{below-nibble, below-prefix, changes_behind-append, changes_behind-nil, is_set, or_true, test_same, sets-behind, sets-here, sets_some-behind}
 use Rattle.update_model.proofs.Stands.{StandsAlong, where_touched_stands}
 use Rattle.update_model.proofs.Unrefused.{IsDone, missing-refused, bad-refused, branch-done, extension-done, alone-missing, alone-bad}
 use Rattle.update_model.proofs.TopsBelow.{NoBranch}
 use Rattle.update_model.proofs.LaidKeeps.{OfChild, PassesOn, laid-keeps}
 use Rattle.update_model.proofs.Joined.{KnowsLone, there-joint, only-holds}
-use Rattle.change_model.proofs.Merging.{untouched_none}
+use Rattle.change_model.proofs.Merging.{untouched_none, lone_from}
+use Rattle.change_model.proofs.Alone.{none-behind}
 
 -- ---- where changes are laid over a top
 
@@ -39,10 +40,6 @@ left_of-untouched further empty = refl
 left_of-untouched further (leaf path ref) = refl
 left_of-untouched further (branch digest used) = refl
 left_of-untouched further (extension path digest used) = refl
-
-touched : (changes : List Change) → changes ≢ [] → is_untouched changes ≡ false
-touched [] some = absurd (some refl)
-touched (change ∷ changes) some = refl
 
 -- a former value that is not deleted stays, or another is set
 abbrev value_after : Option ValueRef → List Change → Bool
@@ -94,7 +91,7 @@ module _ (depth : ℕ) (changes : List Change) (below : AreBelow depth changes) 
   fork-empty = sets_some-behind depth changes below ∙ ap (λ (b : Bool). b || any_below (λ x. sets_some (behind x)) 16) (sym (after_none (change_at [] changes)))
 
   set_or_behind : sets_some changes ≡ true → (is_set (change_at [] changes) ≡ true) ⊎ (any_below (λ x. sets_some (behind x)) 16 ≡ true)
-  set_or_behind e = true_or (is_set (change_at [] changes)) (any_below (λ x. sets_some (behind x)) 16) (sym (sets_some-behind depth changes below) ∙ e)
+  set_or_behind e = or_cases (is_set (change_at [] changes)) (any_below (λ x. sets_some (behind x)) 16) (sym (sets_some-behind depth changes below) ∙ e)
 
   -- at a leaf whose path is used up
   fork-here : (ref : ValueRef) → (is_untouched changes || sets_some changes || not (is_deleted [] changes)) ≡ (value_after (Some ref) changes || any_below (λ x. sets_some (behind x)) 16)
@@ -119,7 +116,7 @@ module _ (depth : ℕ) (changes : List Change) (below : AreBelow depth changes) 
       ]
 
       back : (value_after (Some ref) changes || any) ≡ true → (is_untouched changes || sets_some changes || not (is_deleted [] changes)) ≡ true
-      back e = elim (true_or (value_after (Some ref) changes) any e) [
+      back e = elim (or_cases (value_after (Some ref) changes) any e) [
         | inl here ↦ three_from (is_untouched changes) (sets_some changes) (not (is_deleted [] changes)) (inr (sym (after_some ref (change_at [] changes)) ∙ here))
         | inr further ↦ three_from (is_untouched changes) (sets_some changes) (not (is_deleted [] changes)) (inl (sets_some-behind depth changes below ∙ or_true (is_set (change_at [] changes)) any (inr further)))
       ]
@@ -155,7 +152,7 @@ module _ (depth : ℕ) (changes : List Change) (below : AreBelow depth changes) 
       from_sets x e = three_from (is_untouched changes) (sets_some changes) whole (inl (sets-behind (x ∷ []) changes e))
 
       back : (value_after None changes || any_below inner 16) ≡ true → (is_untouched changes || sets_some changes || whole) ≡ true
-      back e = elim (true_or (value_after None changes) (any_below inner 16) e) [
+      back e = elim (or_cases (value_after None changes) (any_below inner 16) e) [
         | inl here ↦ three_from (is_untouched changes) (sets_some changes) whole (inl (sets-here changes (sym (after_none (change_at [] changes)) ∙ here)))
         | inr further ↦ (
             let r = any_below_from inner 16 further in
@@ -188,7 +185,7 @@ module _ (further : List Change → Bool) (none : further [] ≡ true) where
       let found = found_at-changes_behind (y ∷ []) path changes in
       fork-on depth changes below some y stands.0.0 (λ x. left_of further (top_behind x (leaf (y ∷ path) ref)) (changes_behind (x ∷ []) changes)) (not (is_deleted (y ∷ path) changes))
       (rw (test_same y) (ap (λ o. is_untouched (changes_behind (y ∷ []) changes) || sets_some (changes_behind (y ∷ []) changes) || not (is_deletion o)) found))
-      (λ x apart. rw (test_apart x y apart) refl)
+      (λ x apart. rw (ne_eqb x y apart) refl)
       (λ e. ap (λ o. not (is_deletion o)) (sym found ∙ ap (λ (cs : List Change). found_at path cs) e))
   left_of-fork depth (branch digest used) changes over stands below some = absurd over
   left_of-fork depth (extension [] digest used) changes over stands below some = absurd (stands.2 refl)
@@ -196,7 +193,7 @@ module _ (further : List Change → Bool) (none : further [] ≡ true) where
       let behind = changes_behind-append (y ∷ []) path changes in
       fork-on depth changes below some y stands.0.0 (λ x. left_of further (top_behind x (extension (y ∷ path) digest used)) (changes_behind (x ∷ []) changes)) (further (changes_behind (y ∷ path) changes))
       (rw (test_same y) (left_of-lowered path digest used (changes_behind (y ∷ []) changes) ∙ ap (λ (cs : List Change). is_untouched (changes_behind (y ∷ []) changes) || sets_some (changes_behind (y ∷ []) changes) || further cs) (sym behind)))
-      (λ x apart. rw (test_apart x y apart) refl)
+      (λ x apart. rw (ne_eqb x y apart) refl)
       (λ e. ap further (behind ∙ ap (changes_behind path) e ∙ none-behind path) ∙ none)
 
 -- ---- changes laid over a top
@@ -248,24 +245,6 @@ pub kid-left : (child : Seen) (changes : List Change) (outcome : Outcome) → (c
 kid-left child [] outcome h = kept-there (digest_of child) ∙ sym (is_left-none child)
 kid-left child (change ∷ changes) outcome h = h (λ e. cc)
 
--- the child that a branch is merged with
-pub record IsLone (value : Bool) (left : List ℕ) (changes : List Change) (x : ℕ) : Type 0 where
-  pub no_value : value ≡ false
-  pub only : left ≡ x ∷ []
-  pub untouched : changes_behind (x ∷ []) changes ≡ []
-
-pub lone-from : (value : Bool) (left : List ℕ) (changes : List Change) (x : ℕ) → lone_child value left changes ≡ Some x → IsLone value left changes x
-lone-from true left changes x e = cc
-lone-from false [] changes x e = cc
-lone-from false (y ∷ []) changes x e = go (is_untouched (changes_behind (y ∷ []) changes)) refl e
-  where
-    go : (b : Bool) → is_untouched (changes_behind (y ∷ []) changes) ≡ b → (if b then Some y else None) ≡ Some x → IsLone false (y ∷ []) changes x
-    go true t k =
-        let same : y ≡ x = cc in
-        record { no_value = refl; only = ap (λ z. z ∷ []) same; untouched = subst (λ z. changes_behind (z ∷ []) changes ≡ []) same (untouched_none (changes_behind (y ∷ []) changes) t) }
-    go false t k = cc
-lone-from false (y ∷ z ∷ left) changes x e = cc
-
 -- a child that was visited alone is there, if it is named
 pub alone-there : (s : Seen) → IsDone (visit_alone s) → is_left s [] ≡ true → is_there (known (top_seen s)) ≡ true
 unfolding top_seen is_there digest_of
@@ -309,7 +288,7 @@ module _ (ref : Option ValueRef) (children : ℕ → Seen) (changes : List Chang
   module _ (done : (x : ℕ) → merged ≡ Some x → IsDone (visit_alone (children x))) where
     merged-there : (x : ℕ) → merged ≡ Some x → (is_there (known (top_seen (children x))) ≡ true) × (left x ≡ true)
     merged-there x e =
-        let lone = lone-from (has_value_after ref changes) (numbers_below left 16) changes x e in
+        let lone = lone_from (has_value_after ref changes) (numbers_below left 16) changes x e in
         let here : left x ≡ true = (only-holds left 16 x lone.only).1 in
         (alone-there (children x) (done x e) (ap (is_left (children x)) (sym lone.untouched) ∙ here), here)
 
@@ -395,7 +374,7 @@ branch-causes depth ref kids changes below some = same_tests (value || any) (is_
     any = any_below left 16
 
     onward : (value || any) ≡ true → (is_untouched changes || sets_some changes || value || any) ≡ true
-    onward e = elim (true_or value any e) [
+    onward e = elim (or_cases value any e) [
       | inl here ↦ or_true (is_untouched changes || sets_some changes || value) any (inl (three_from (is_untouched changes) (sets_some changes) value (inr here)))
       | inr further ↦ or_true (is_untouched changes || sets_some changes || value) any (inr further)
     ]
@@ -411,7 +390,7 @@ branch-causes depth ref kids changes below some = same_tests (value || any) (is_
     ]
 
     back : (is_untouched changes || sets_some changes || value || any) ≡ true → (value || any) ≡ true
-    back e = elim (true_or (is_untouched changes || sets_some changes || value) any e) [
+    back e = elim (or_cases (is_untouched changes || sets_some changes || value) any e) [
       | inl first ↦ elim (three (is_untouched changes) (sets_some changes) value first) [
         | inl untouched ↦ absurd (some (untouched_none changes untouched))
         | inr more ↦ elim more [ inl set ↦ sets set | inr here ↦ or_true value any (inl here) ]

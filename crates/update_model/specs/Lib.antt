@@ -8,3 +8,5 @@ pub mod Updates
 pub mod Sound
 -- what is seen, where a batch visits it
 pub mod Stands
+-- how much usage a change may add
+pub mod Growth

@@ -1,4 +1,5 @@
 pub mod SeenBounds
+pub mod SeenTexts
 pub mod ShownFits
 pub mod ShownTrees
 pub mod ShownStates

@@ -11,6 +11,7 @@ use Rattle.sha2.specs.Sha256.{sha256}
 use Rattle.byte_model.specs.Below.{joined_below}
 use Rattle.byte_model.specs.Nibbles.{AreBytes, AreNibbles, nibbles}
 use Rattle.byte_model.proofs.Digits.{AreNibbles-nibbles, AreNibbles-rest, nibbles-same}
+use Rattle.byte_model.proofs.Below.{joined_below-empty, joined_below-only}
 use Rattle.trie_model.specs.State.{State, Row, IsState, rows_of}
 use Rattle.trie_model.specs.Tree.{Tree, branch, extension, rest_behind, below, ends_here, tree_of}
 use Rattle.trie_model.specs.Texts.{text, value_ref, behind, places}
@@ -26,7 +27,7 @@ use Rattle.visit_model.specs.Visits.{Visits, no_visits, node_first, visits_of, l
 use Rattle.visit_model.specs.Bounds.{has_prefix, at_most_one}
 use Rattle.visit_model.proofs.ShownStates.{state_seen}
 use Rattle.visit_model.proofs.Values.{HeldValue, value_visit-held, held_values}
-use Rattle.visit_model.proofs.Joins.{filter-joined_below, joined_below-empty, joined_below-only}
+use Rattle.visit_model.proofs.Joins.{filter-joined_below}
 
 -- ---- the row that ends at a path
 

@@ -4,10 +4,10 @@ use Rattle.trie_model.specs.Root.{Table}
 use Rattle.trie_model.specs.State.{rows_of}
 use Rattle.visit_model.specs.Visits.{listing_visits}
 use Rattle.visit_model.proofs.ListedRows.{listing-rises}
+use Rattle.base_core.proofs.PassedOn.{passed_on}
 use Rattle.trie_read.specs.declared.walk.Walk.{Walk}
 use Rattle.trie_read.specs.Walks.{Stacked}
 use Rattle.trie_read.specs.Listings.{Passed, AnswersPlace, AnswersPair}
-use Rattle.trie_read.proofs.Loads.{passed_on}
 use Rattle.trie_read.proofs.Stacks.{Stacked-pop, Stacked-widen}
 use Rattle.trie_read.proofs.ListingProgress.{place-passed, no-value, value-added}
 use Rattle.trie_read.proofs.ListingVisits.{Answered, no_root, listed_none, at_root, all_visited, enough_visited, place-refused, pair-refused, list-state, place-shorter, none_of_length, rows_of-length}

@@ -1,13 +1,13 @@
 use Rattle.std.proofs.Common.{rules, ◌≡◌, ℕ, List, [], length, drop, Some, sym, ap, ◌∙◌, subst}
 use Rattle.std.specs.Prelude.{if◌then◌else◌}
 use Rattle.byte_model.specs.Nibbles.{nibbles}
+use Rattle.record_model.specs.Fits.{fitting_node}
+use Rattle.base_core.proofs.PassedOn.{passed_on}
 use Rattle.node_codec.specs.Views.{node_viewed}
-use Rattle.trie_shape.specs.Fitting.{fitting_node}
 use Rattle.trie_read.specs.Endings.{as_listed}
 use Rattle.trie_read.specs.Loads.{IsStopped}
 use Rattle.trie_read.specs.Walks.{IsWalk, Enters, place_before, place_bound, place_depth}
 use Rattle.trie_read.specs.Listings.{AnswersPlace}
-use Rattle.trie_read.proofs.Loads.{passed_on}
 use Rattle.trie_read.proofs.HeldNodes.{stopped-text, stopped-node, held-node, sees-node}
 use Rattle.trie_read.proofs.PlaceVisits.{before-depth, walk-before, place-stopped, place-passed}
 use Rattle.trie_read.proofs.listing.visit_place.Goals as goal

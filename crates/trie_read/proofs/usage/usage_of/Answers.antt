@@ -1,10 +1,10 @@
 use Rattle.std.proofs.Common.{ℕ, List, [], ◌∷◌, Some, Ok, false, sym, subst}
 use Rattle.std.specs.Borrow.{Bor}
+use Rattle.base_core.proofs.PassedOn.{passed_on}
 use Rattle.node_codec.specs.Views.{node_viewed}
 use Rattle.text_store.specs.Leaves.{Leaves}
 use Rattle.text_store.proofs.Leaves.{Leaves-refused}
 use Rattle.trie_read.specs.Endings.{by_error, read_ended}
-use Rattle.trie_read.proofs.Loads.{passed_on}
 use Rattle.trie_read.proofs.HeldNodes.{stopped-text, stopped-node, held-node}
 use Rattle.trie_read.proofs.RootVisit.{Answered, answered-zero, answered-stopped, answered-node, usage-state}
 use Rattle.trie_read.proofs.usage.usage_of.Goals as goal

@@ -2,14 +2,15 @@ use Rattle.std.proofs.Common.{[], option_map, ap, sym, subst, ◌∙◌}
 use Rattle.std.proofs.lemmas.Result.{IfOk-weaker, on_ok_weaker}
 use Rattle.node_codec.specs.Meanings.{value_of}
 use Rattle.update_model.specs.Joins.{Joint, is_there, joint}
+use Rattle.update_model.proofs.Joined.{only-holds}
 use Rattle.trie_update.specs.Adds.{Adds}
 use Rattle.trie_update.specs.Subs.{kid_at}
 use Rattle.trie_update.proofs.Adding.{adds-none}
-use Rattle.trie_update.proofs.Children.{fork-one, joint-lone, joint-one, lone-number}
+use Rattle.trie_update.proofs.Children.{fork-one, joint-lone, joint-one}
 use Rattle.trie_update.proofs.joining.one_child.Goals as goal
 
 pub lone-requires-clause-inside : goal.lone-requires-clause-inside
-lone-requires-clause-inside c = (lone-number (λ x. is_there (kid_at c.args.children.items x)) 16 c.args.nibble c.requires.one).0
+lone-requires-clause-inside c = (only-holds (λ x. is_there (kid_at c.args.children.items x)) 16 c.args.nibble c.requires.one).0
 
 pub fork-requires-clause-forks : goal.fork-requires-clause-forks
 fork-requires-clause-forks c = fork-one (value_of c.in-Some.value) (kid_at c.args.children.items) c.args.kept_usage c.args.nibble (rw c.in-Some.is at c.requires.joins) c.requires.one

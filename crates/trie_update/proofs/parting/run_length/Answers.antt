@@ -1,8 +1,8 @@
 use Rattle.std.proofs.Common.{rules}
 use Rattle.std.proofs.lemmas.List.Sorted.{IsPartitionPoint-from_clause}
+use Rattle.update_model.proofs.Behind.{rising}
 use Rattle.trie_shape.specs.Runs.{goes_on}
 use Rattle.trie_update.specs.ChangesAt.{change_at}
-use Rattle.trie_update.proofs.Runs.{rising}
 use Rattle.trie_update.proofs.ChangesAt.{parted, point-run}
 use Rattle.trie_update.proofs.parting.run_length.Goals as goal
 

@@ -10,10 +10,10 @@ use Rattle.trie_update.specs.ChangesAt.{changes_at}
 use Rattle.trie_update.specs.Places.{place_behind, place_visits, place_of, old_past, seen_past, top_visits, top_stated, TopKeeps}
 use Rattle.trie_update.specs.Placed.{run_at, branch_inside}
 use Rattle.trie_update.proofs.Carrying.{carries-passed, opens-changed, visit-stopped, carries-none, carries-ok, carries-stopped, carries-then, carries-less, carries-closed, carries-end, carries-late}
-use Rattle.trie_update.proofs.Turning.{IsGathered, changes-deep, run-short, end-carries, end-parted, gathered-none, length-changes_at, turn-changes, turn-fewer, turn-more, turn-room, turn-short, turn-stopped}
+use Rattle.trie_update.proofs.Turning.{IsGathered, run-short, end-carries, end-parted, gathered-none, turn-changes, turn-fewer, turn-more, turn-room, turn-short, turn-stopped}
 use Rattle.trie_update.specs.Carries.{Carries}
 use Rattle.trie_update.proofs.PlaceFacts.{untouched-visits}
-use Rattle.trie_update.proofs.FormerCalls.{child-untouched, empty-changes, some-changes, known-touched, named-touched, known-keeps, named-keeps, carries-placed, child-placed, changes-some}
+use Rattle.trie_update.proofs.FormerCalls.{child-untouched, empty-changes, some-changes, known-touched, named-touched, known-keeps, named-keeps, carries-placed, child-placed}
 use Rattle.visit_model.specs.Seen.{seen_at, stated_usage, Seen, seen_child}
 use Rattle.trie_update.specs.declared.updating.Placed.{Placed}
 use Rattle.std.proofs.lemmas.Result.{IfOk-weaker}
@@ -30,9 +30,10 @@ use Rattle.trie_update.specs.Merges.{CanSettle, MergedStands, lone_named, seen_k
 use Rattle.trie_update.specs.Subs.{kid_at, top_of_sub}
 use Rattle.trie_update.proofs.BranchCalls.{branch-carries, branch-keeps, branch-placed, branch-places, branch-settles, branch-stopped, small-mapped}
 use Rattle.trie_update.specs.declared.old.Old.TheVariants as old
-use Rattle.trie_update.proofs.Digests.{lent-deep, lent-some, lose-named, lose-room, old-carries, old-keeps, old-placed, opened-short, opens-first, reads-extension, reads-leaf, value-small, visited-carries, visited-children, visited-keeps, visited-placed}
+use Rattle.trie_update.proofs.Digests.{lose-named, lose-room, old-carries, old-keeps, old-placed, opened-short, opens-first, reads-extension, reads-leaf, value-small, visited-carries, visited-children, visited-keeps, visited-placed}
 use Rattle.trie_update.proofs.SeenVisits.{SeesBranch, SeesCopy, sees-visited}
 use Rattle.trie_update.proofs.updating.+update.Goals as goal
+use Rattle.trie_update.proofs.ChangesAt.{changes-some, lent-deep, length-changes_at}
 
 pub at_branch-returns-in_err-left-clause-carries : goal.at_branch-returns-in_err-left-clause-carries
 at_branch-returns-in_err-left-clause-carries g t c = λ children are.
@@ -323,7 +324,7 @@ at_digest-returns-in-Leaf-clause-placed g t c =
     let reads = reads-leaf table depth after digest visited c.as_slice.result c.in-Leaf.path c.in-Leaf.value c.as_slice.ensures here in
     let new = c.at_old.new.store in
     let result = c.at_old.result in
-    old-placed store onward first mid new same depth after digest visited left o reads cs result c.args.ledger.now c.lose.new.self c.at_old.new.ledger _ (lent-some depth c.args.changes.now c.requires.some) c.in_ok-lose.ensures.loses c.at_old.ensures.placed
+    old-placed store onward first mid new same depth after digest visited left o reads cs result c.args.ledger.now c.lose.new.self c.at_old.new.ledger _ (changes-some depth c.args.changes.now c.requires.some) c.in_ok-lose.ensures.loses c.at_old.ensures.placed
 
 pub at_digest-returns-in-Leaf-clause-keeps : goal.at_digest-returns-in-Leaf-clause-keeps
 at_digest-returns-in-Leaf-clause-keeps g t c =
@@ -347,7 +348,7 @@ at_digest-returns-in-Leaf-clause-keeps g t c =
     let new = c.at_old.new.store in
     let result = c.at_old.result in
     let carries = old-carries store onward first mid new same depth after digest visited left o reads cs result c.at_old.ensures.carries in
-    old-keeps store onward first mid new same depth after digest visited left o reads cs (below-changes_at depth c.args.changes.now c.requires.changes) (lent-some depth c.args.changes.now c.requires.some) result carries c.at_old.ensures.keeps
+    old-keeps store onward first mid new same depth after digest visited left o reads cs (below-changes_at depth c.args.changes.now c.requires.changes) (changes-some depth c.args.changes.now c.requires.some) result carries c.at_old.ensures.keeps
 
 pub at_digest-returns-in-Extension-clause-carries : goal.at_digest-returns-in-Extension-clause-carries
 at_digest-returns-in-Extension-clause-carries g t c =
@@ -393,7 +394,7 @@ at_digest-returns-in-Extension-clause-placed g t c =
     let reads = reads-extension table depth after digest visited c.as_slice-in-Extension.result c.in-Extension.path c.in-Extension.child c.saturating_sub.result c.as_slice-in-Extension.ensures c.saturating_sub.ensures here in
     let new = c.at_old-in-Extension.new.store in
     let result = c.at_old-in-Extension.result in
-    old-placed store onward first mid new same depth after digest visited left o reads cs result c.args.ledger.now c.lose.new.self c.at_old-in-Extension.new.ledger _ (lent-some depth c.args.changes.now c.requires.some) c.in_ok-lose.ensures.loses c.at_old-in-Extension.ensures.placed
+    old-placed store onward first mid new same depth after digest visited left o reads cs result c.args.ledger.now c.lose.new.self c.at_old-in-Extension.new.ledger _ (changes-some depth c.args.changes.now c.requires.some) c.in_ok-lose.ensures.loses c.at_old-in-Extension.ensures.placed
 
 pub at_digest-returns-in-Extension-clause-keeps : goal.at_digest-returns-in-Extension-clause-keeps
 at_digest-returns-in-Extension-clause-keeps g t c =
@@ -417,7 +418,7 @@ at_digest-returns-in-Extension-clause-keeps g t c =
     let new = c.at_old-in-Extension.new.store in
     let result = c.at_old-in-Extension.result in
     let carries = old-carries store onward first mid new same depth after digest visited left o reads cs result c.at_old-in-Extension.ensures.carries in
-    old-keeps store onward first mid new same depth after digest visited left o reads cs (below-changes_at depth c.args.changes.now c.requires.changes) (lent-some depth c.args.changes.now c.requires.some) result carries c.at_old-in-Extension.ensures.keeps
+    old-keeps store onward first mid new same depth after digest visited left o reads cs (below-changes_at depth c.args.changes.now c.requires.changes) (changes-some depth c.args.changes.now c.requires.some) result carries c.at_old-in-Extension.ensures.keeps
 
 pub at_digest-returns-in-Branch-clause-carries : goal.at_digest-returns-in-Branch-clause-carries
 at_digest-returns-in-Branch-clause-carries g t c =
@@ -725,7 +726,7 @@ at_nibbles-split_at-requires g t c =
 
 pub at_nibbles-overflow_add-depth : goal.at_nibbles-overflow_add-depth
 at_nibbles-overflow_add-depth g t c =
-    let deep = changes-deep c.args.depth c.args.changes.now c.requires.changes c.requires.some in
+    let deep = lent-deep c.args.depth c.args.changes.now c.requires.changes c.requires.some in
     record { fits = omega arith }
 
 pub at_nibbles-at_former-requires : goal.at_nibbles-at_former-requires
@@ -734,7 +735,7 @@ at_nibbles-at_former-requires g t c =
     let ref = option_map value_of c.args.former in
     let table = store.texts c.args.store.now in
     let places = place_behind table c.args.depth c.args.parent.now in
-    let deep = changes-deep c.args.depth c.args.changes.now c.requires.changes c.requires.some in
+    let deep = lent-deep c.args.depth c.args.changes.now c.requires.changes c.requires.some in
     let fewer = turn-fewer store c.args.depth ref places c.args.changes.now c.loop-nibble.rest.now c.loop-nibble.nibble c.loop-nibble.children.items c.loop-nibble.stated c.args.store.now c.loop-nibble.store c.args.ledger.now c.loop-nibble.ledger c.loop-nibble.invariant c.split_at.result.0.now c.split_at.result.1.now c.run_length.result c.run_length.ensures c.split_at.ensures.front c.split_at.ensures.back in
     let few = c.requires.few in
     λ κs h. (search rules, (h, (turn-changes store c.args.depth ref places c.args.changes.now c.loop-nibble.rest.now c.loop-nibble.nibble c.loop-nibble.children.items c.loop-nibble.stated c.args.store.now c.loop-nibble.store c.args.ledger.now c.loop-nibble.ledger c.loop-nibble.invariant c.split_at.result.0.now c.split_at.result.1.now c.run_length.result c.run_length.ensures c.split_at.ensures.front c.split_at.ensures.back, (omega arith, (turn-room store c.args.depth ref places c.args.changes.now c.loop-nibble.rest.now c.loop-nibble.nibble c.loop-nibble.children.items c.loop-nibble.stated c.args.store.now c.loop-nibble.store c.args.ledger.now c.loop-nibble.ledger c.loop-nibble.invariant c.split_at.result.0.now c.split_at.result.1.now c.run_length.result c.run_length.ensures c.split_at.ensures.front c.split_at.ensures.back c.requires.room, (c.loop-nibble.invariant.named, c.behind-place.ensures.fits table c.args.depth c.requires.parent))))))
@@ -837,7 +838,7 @@ at_old-returns-clause-carries g t c =
 
 pub at_path-overflow_add-below : goal.at_path-overflow_add-below
 at_path-overflow_add-below g t c =
-    let deep = changes-deep (c.args.depth + c.shared_length-shared.result) c.args.changes.now c.shared_length-shared.ensures.deeper c.requires.some in
+    let deep = lent-deep (c.args.depth + c.shared_length-shared.result) c.args.changes.now c.shared_length-shared.ensures.deeper c.requires.some in
     record { fits = omega arith }
 
 pub at_path-returns-in_err-placed-in-Some-clause-carries : goal.at_path-returns-in_err-placed-in-Some-clause-carries

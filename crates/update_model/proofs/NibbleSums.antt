@@ -1,2 +1,0 @@
--- Sums over the nibbles.
-pub use Rattle.change_model.proofs.Touching.{sum_below-plus, sum_below-none, sum_below-single}
