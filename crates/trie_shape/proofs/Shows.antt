@@ -150,7 +150,7 @@ pub record IsNamed (self : Sub) (closed : Closed) : Type 0 where
   pub digest : Some closed.digest.0 ≡ digest_of self
   pub usage : closed.usage ≡ usage_of self
 
-abbrev IsAbsent : Closed → Type 0
+abbrev pub IsAbsent : Closed → Type 0
 IsAbsent closed = let result : Result (Option Closed) CloseError = Ok (Some closed) in result ≡ Ok None
 
 pub not_absent : (closed : Closed) → IsAbsent closed → ⊥

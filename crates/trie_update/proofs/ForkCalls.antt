@@ -8,6 +8,7 @@ use Rattle.byte_model.specs.Node.{ValueRef}
 use Rattle.byte_model.proofs.Paths.{length-packed}
 use Rattle.byte_model.proofs.Lists.{some_items}
 use Rattle.trie_model.specs.Root.{Table}
+use Rattle.trie_model.proofs.Rests.{same_nibble}
 use Rattle.visit_model.specs.Seen as seen
 use Rattle.visit_model.specs.Seen.{Seen, stated_usage}
 use Rattle.batch_model.specs.Changes.{Change, most_changes}
@@ -20,7 +21,7 @@ use Rattle.update_model.specs.Sound.{AreBelow, StandsAt}
 use Rattle.update_model.specs.Tops.{Top, empty, leaf, branch, extension, lowered, ref_here, top_behind}
 use Rattle.update_model.specs.Joins.{Joint, Kid, known, joint, kid_usage}
 use Rattle.update_model.specs.Updates.{Outcome, appearing, behind_outcome, disappearing, fork_outcome, laid, parted, ref_after, updated, value_lost, value_made}
-use Rattle.update_model.proofs.Behind.{below-nibble, test_same}
+use Rattle.update_model.proofs.Behind.{below-nibble}
 use Rattle.update_model.proofs.JointsAlike.{joint-agree}
 use Rattle.update_model.proofs.LaidKeeps.{OfChild, of_child-behind}
 use Rattle.update_model.proofs.LaidSteps.{changes_behind-append, changes_behind-nil, laid-agree}
@@ -54,7 +55,7 @@ former-past count (Leaf path value) h = go (drop count path.now) refl
     go [] none =
         let left = length-drop count path.now in
         let same : length path.now ≡ count = (let l = ap length none in omega arith) in
-        let test : (length path.now == count) ≡ true = ap (λ n. n == count) same ∙ test_same count in
+        let test : (length path.now == count) ≡ true = ap (λ n. n == count) same ∙ same_nibble count in
         ap (λ (b : Bool). option_map value_of (if b then Some value else None)) test
     go (x ∷ r) more =
         let left = length-drop count path.now in
@@ -159,7 +160,7 @@ module _ (below : Seen) (changes : List Change) where
   fork-visits depth (extension (y ∷ path) digest used) over_it stands =
       visits_below-one (λ x. top_visits below (top_behind x (extension (y ∷ path) digest used)) (run_at changes x)) y 16 stands.0.0
       (λ x other. ap (λ (b : Bool). top_visits below (if b then lowered path (branch digest used) else empty) (run_at changes x)) (ne_eqb x y other))
-      ∙ ap (λ (b : Bool). top_visits below (if b then lowered path (branch digest used) else empty) (run_at changes y)) (test_same y)
+      ∙ ap (λ (b : Bool). top_visits below (if b then lowered path (branch digest used) else empty) (run_at changes y)) (same_nibble y)
       ∙ reached_visits path digest used (run_at changes y)
       ∙ ap (λ (ds : List Change). where_touched ds (visits_at below ds)) (sym (changes_behind-append (y ∷ []) path changes))
 
@@ -172,7 +173,7 @@ module _ (below : Seen) (changes : List Change) where
   fork-stated depth (extension (y ∷ path) digest used) over_it stands =
       sum_below-one (λ x. top_stated below (top_behind x (extension (y ∷ path) digest used)) (run_at changes x)) y 16 stands.0.0
       (λ x other. ap (λ (b : Bool). top_stated below (if b then lowered path (branch digest used) else empty) (run_at changes x)) (ne_eqb x y other))
-      ∙ ap (λ (b : Bool). top_stated below (if b then lowered path (branch digest used) else empty) (run_at changes y)) (test_same y)
+      ∙ ap (λ (b : Bool). top_stated below (if b then lowered path (branch digest used) else empty) (run_at changes y)) (same_nibble y)
       ∙ reached_stated path digest used (run_at changes y)
       ∙ ap (λ (ds : List Change). if_touched ds (stated_usage below)) (sym (changes_behind-append (y ∷ []) path changes))
 
@@ -186,9 +187,9 @@ module _ (below : Seen) (changes : List Change) where
   fork-keeps depth (branch digest used) over_it stands h = absurd over_it
   fork-keeps depth (extension [] digest used) over_it stands h = absurd (stands.2 refl)
   fork-keeps depth (extension (y ∷ []) digest used) over_it stands h =
-      subst (λ (b : Bool). TopKeeps (depth + 1) below (if b then branch digest used else empty) (run_at changes y)) (test_same y) (h y stands.0.0)
+      subst (λ (b : Bool). TopKeeps (depth + 1) below (if b then branch digest used else empty) (run_at changes y)) (same_nibble y) (h y stands.0.0)
   fork-keeps depth (extension (y ∷ z ∷ path) digest used) over_it stands h =
-      let here = subst (λ (b : Bool). TopKeeps (depth + 1) below (if b then extension (z ∷ path) digest used else empty) (run_at changes y)) (test_same y) (h y stands.0.0) in
+      let here = subst (λ (b : Bool). TopKeeps (depth + 1) below (if b then extension (z ∷ path) digest used else empty) (run_at changes y)) (same_nibble y) (h y stands.0.0) in
       let far : depth + 1 + length (z ∷ path) ≡ depth + length (y ∷ z ∷ path) = omega arith in
       keeps-along (depth + 1 + length (z ∷ path)) (depth + length (y ∷ z ∷ path)) (changes_behind (z ∷ path) (run_at changes y)) (changes_behind (y ∷ z ∷ path) changes) far (sym (changes_behind-append (y ∷ []) (z ∷ path) changes)) here
 

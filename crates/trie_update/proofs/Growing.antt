@@ -5,10 +5,11 @@ use Rattle.std.specs.List.{AllByRecursion}
 use Rattle.sha2.specs.Sha256.{sha256}
 use Rattle.byte_model.specs.Node.{ValueRef}
 use Rattle.byte_model.proofs.Lists.{AllByRecursion-append}
+use Rattle.update_model.specs.Updates.{appearing, disappearing}
 use Rattle.base_core.specs.declared.hash.Digest.{Digest}
 use Rattle.trie_update.specs.declared.ledger.Gained.{Gained}
 use Rattle.trie_update.specs.declared.ledger.Ledger.{Ledger}
-use Rattle.trie_update.specs.Accounts.{Gains, Loses, Grows, GrowsBy, IsNamed, CanCount, appearing, disappearing}
+use Rattle.trie_update.specs.Accounts.{Gains, Loses, Grows, GrowsBy, IsNamed, CanCount}
 
 -- lists that grow at their ends, one after the other
 pub append-append : {X : Type 0} (old mid new xs ys : List X) → mid ≡ old ++ xs → new ≡ mid ++ ys → new ≡ old ++ (xs ++ ys)

@@ -2,7 +2,7 @@
 use Rattle.std.proofs.Common.{◌≡◌, ◌≢◌, ℕ, zero, suc, ◌<◌, ◌≤◌, ◌==◌, true, false, if◌then◌else◌, List, [], ◌∷◌, length, set, Option, None, Some, is_some, option_map, refl, sym, ◌∙◌, ap, ap₂, subst, arith}
 use Rattle.std.proofs.lemmas.Bool.{false≢true}
 use Rattle.byte_model.specs.Node.{ValueRef}
-use Rattle.trie_model.proofs.Rests.{equal_of_test}
+use Rattle.trie_model.proofs.Rests.{equal_of_test, same_nibble}
 use Rattle.trie_model.specs.Root.{Table}
 use Rattle.visit_model.specs.Seen.{Seen, seen_at, stated_usage}
 use Rattle.change_model.specs.Visits.{merge_usage, merge_visits, visit_alone}
@@ -10,7 +10,6 @@ use Rattle.base_core.specs.declared.hash.Digest.{Digest}
 use Rattle.update_model.specs.Tops.{Top}
 use Rattle.update_model.specs.Joins.{Kid, named, known, is_there, there, kid_usage}
 use Rattle.update_model.specs.Updates.{merged_kids, merged_lost, top_seen, lost_alone}
-use Rattle.update_model.proofs.Behind.{test_same}
 use Rattle.trie_update.specs.declared.joining.Child.{Child}
 use Rattle.trie_update.specs.Merges.{IsFound, if_named, lone_among, lone_named, seen_kid, seen_kids, MergedStands}
 use Rattle.trie_update.specs.Subs.{kid_at, kid_of, CanJoin, IsKnown, KidStands}
@@ -62,7 +61,7 @@ module _ {X : Type 0} (f : X → ValueRef) (o : Option X) (kids : ℕ → Kid) (
 -- ---- as it is put back
 
 apart : (y z : ℕ) → (y == z) ≡ false → y ≢ z
-apart y z t e = absurd (false≢true (sym t ∙ ap (λ w. y == w) (sym e) ∙ test_same y))
+apart y z t e = absurd (false≢true (sym t ∙ ap (λ w. y == w) (sym e) ∙ same_nibble y))
 
 kid_at-set_same : (children : List Child) (x : ℕ) (new : Child) → x < length children → kid_at (set children x new) x ≡ kid_of new
 unfolding kid_at

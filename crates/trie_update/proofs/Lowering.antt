@@ -10,13 +10,13 @@ use Rattle.byte_model.specs.Node.{ValueRef}
 use Rattle.byte_model.proofs.Lists.{some_items}
 use Rattle.byte_model.proofs.Below.{joined_below-only}
 use Rattle.trie_model.specs.Tree.{rest_behind}
-use Rattle.trie_model.proofs.Rests.{equal_of_test}
+use Rattle.trie_model.proofs.Rests.{equal_of_test, same_nibble}
 use Rattle.batch_model.specs.Changes.{Change}
 use Rattle.change_model.specs.Visits.{changes_behind, change_at}
 use Rattle.update_model.specs.Tops.{Top, empty, leaf, branch, extension, lowered, top_behind, ref_here}
 use Rattle.update_model.specs.Joins.{Kid, known, is_there, there, kid_top, Joint, without_texts, joint_by, joint}
 use Rattle.update_model.specs.Updates.{Outcome, unchanged, node_outcome, behind_outcome, parted, fork_outcome, laid, ref_after}
-use Rattle.update_model.proofs.Behind.{GoOn, none-ends, test_same}
+use Rattle.update_model.proofs.Behind.{GoOn, none-ends}
 use Rattle.update_model.proofs.LaidSteps.{laid-step, changes_behind-nil, changes_behind-append}
 use Rattle.update_model.proofs.Joints.{no_numbers, only_number}
 use Rattle.trie_update.specs.ChangesAt.{AllBegin}
@@ -59,9 +59,9 @@ lowered-some (x ∷ p) path digest used some = refl
 behind-lowered : (x : ℕ) (p : List ℕ) (base : Top) → IsProper base → top_behind x (lowered (x ∷ p) base) ≡ lowered p base
 unfolding lowered top_behind
 behind-lowered x p empty proper = refl
-behind-lowered x p (leaf path ref) proper = ap (λ (b : Bool). if b then leaf (p ++ path) ref else empty) (test_same x)
-behind-lowered x p (branch digest used) proper = ap (λ (b : Bool). if b then lowered p (branch digest used) else empty) (test_same x)
-behind-lowered x p (extension path digest used) proper = ap (λ (b : Bool). if b then lowered (p ++ path) (branch digest used) else empty) (test_same x) ∙ lowered-some p path digest used proper
+behind-lowered x p (leaf path ref) proper = ap (λ (b : Bool). if b then leaf (p ++ path) ref else empty) (same_nibble x)
+behind-lowered x p (branch digest used) proper = ap (λ (b : Bool). if b then lowered p (branch digest used) else empty) (same_nibble x)
+behind-lowered x p (extension path digest used) proper = ap (λ (b : Bool). if b then lowered (p ++ path) (branch digest used) else empty) (same_nibble x) ∙ lowered-some p path digest used proper
 
 apart-lowered : (x y : ℕ) (p : List ℕ) (base : Top) → y ≢ x → top_behind y (lowered (x ∷ p) base) ≡ empty
 unfolding lowered top_behind
@@ -108,7 +108,7 @@ unfolding changes_behind rest_behind
 begin-behind x p [] begin = tt
 begin-behind x p (([], value) ∷ changes) begin = absurd (nothing_before x p begin.0.0 begin.0.1)
 begin-behind x p ((z ∷ path, value) ∷ changes) begin =
-    let same : (x == z) ≡ true = ap (λ w. x == w) (first_nibble x z p path begin.0.0 begin.0.1) ∙ test_same x in
+    let same : (x == z) ≡ true = ap (λ w. x == w) (first_nibble x z p path begin.0.0 begin.0.1) ∙ same_nibble x in
     rw same ((begin.0.0, further_nibbles x z p path begin.0.0 begin.0.1), begin-behind x p changes begin.1)
 
 pub some-behind : (x : ℕ) (p : List ℕ) (changes : List Change) → AllBegin (x ∷ p) changes → changes ≢ [] → changes_behind (x ∷ []) changes ≢ []
@@ -116,7 +116,7 @@ unfolding changes_behind rest_behind
 some-behind x p [] begin some = absurd (some refl)
 some-behind x p (([], value) ∷ changes) begin some = absurd (nothing_before x p begin.0.0 begin.0.1)
 some-behind x p ((z ∷ path, value) ∷ changes) begin some =
-    let same : (x == z) ≡ true = ap (λ w. x == w) (first_nibble x z p path begin.0.0 begin.0.1) ∙ test_same x in
+    let same : (x == z) ≡ true = ap (λ w. x == w) (first_nibble x z p path begin.0.0 begin.0.1) ∙ same_nibble x in
     rw same (some_items (path, value) (changes_behind (x ∷ []) changes))
 
 -- ---- an outcome behind one nibble
@@ -126,7 +126,7 @@ at_nibble x outcome y = if y == x then outcome else unchanged empty
 
 module _ (x : ℕ) (small : x < 16) (outcome : Outcome) where
   here : at_nibble x outcome x ≡ outcome
-  here = ap (λ (b : Bool). if b then outcome else unchanged empty) (test_same x)
+  here = ap (λ (b : Bool). if b then outcome else unchanged empty) (same_nibble x)
 
   elsewhere : (y : ℕ) → y ≢ x → at_nibble x outcome y ≡ unchanged empty
   elsewhere y other = ap (λ (b : Bool). if b then outcome else unchanged empty) (ne_eqb y x other)
@@ -214,7 +214,7 @@ one_further child x p base changes small proper some begin =
     ∙ one-nibble x small outcome
   where
     apart_test : (y z : ℕ) → (y == z) ≡ false → y ≢ z
-    apart_test y z t e = absurd (false≢true (sym t ∙ ap (λ w. y == w) (sym e) ∙ test_same y))
+    apart_test y z t e = absurd (false≢true (sym t ∙ ap (λ w. y == w) (sym e) ∙ same_nibble y))
 
 -- Behind nibbles with which all changes begin, as what stood before them does.
 pub laid-lowered : (p : List ℕ) (child : List Change → Outcome) (base : Top) (changes : List Change) → AreNibbles p → IsProper base → changes ≢ [] → AllBegin p changes

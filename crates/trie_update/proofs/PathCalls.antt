@@ -7,7 +7,7 @@ use Rattle.byte_model.proofs.Digits.{AreNibbles-rest}
 use Rattle.byte_model.proofs.Lists.{AllByRecursion-take, AllByRecursion-drop}
 use Rattle.trie_model.specs.Root.{Table}
 use Rattle.trie_model.specs.Tree.{rest_behind}
-use Rattle.trie_model.proofs.Rests.{equal_of_test, prefix_and_rest}
+use Rattle.trie_model.proofs.Rests.{equal_of_test, prefix_and_rest, same_nibble}
 use Rattle.visit_model.specs.Seen.{Seen, seen_at, stated_usage}
 use Rattle.batch_model.specs.Changes.{Change}
 use Rattle.change_model.specs.Visits.{Visits, changes_behind, if_touched, visits_at, where_touched}
@@ -16,7 +16,7 @@ use Rattle.node_codec.specs.Meanings.{value_of}
 use Rattle.update_model.specs.Sound.{StandsAt}
 use Rattle.update_model.specs.Tops.{Top, empty, leaf, branch, extension, lowered}
 use Rattle.update_model.specs.Updates.{Outcome, fork_outcome, laid, updated}
-use Rattle.update_model.proofs.Behind.{fewer-behind, test_same}
+use Rattle.update_model.proofs.Behind.{fewer-behind}
 use Rattle.update_model.proofs.LaidSteps.{laid-step, changes_behind-append, changes_behind-nil}
 use Rattle.trie_update.specs.declared.old.Old.{Old}
 use Rattle.trie_update.specs.declared.old.Old.TheVariants.{Nothing, Leaf, Extension}
@@ -295,7 +295,7 @@ led-none count (Extension path child used) e h = go (drop count path.now) refl
     go [] none =
         let left = length-drop count path.now in
         let same : length path.now ≡ count = (let l = ap length none in omega arith) in
-        let test : (length path.now == count) ≡ true = ap (λ n. n == count) same ∙ test_same count in
+        let test : (length path.now == count) ≡ true = ap (λ n. n == count) same ∙ same_nibble count in
         absurd (let k : None ≡ Some child = e ∙ ap (λ (b : Bool). if b then Some child else None) test in cc)
     go (x ∷ r) more = tt
 

@@ -2,7 +2,7 @@
 use Rattle.std.proofs.Common.{◌≡◌, ◌≢◌, ℕ, zero, suc, ◌+◌, ◌==◌, if◌then◌else◌, Bool, true, false, List, [], ◌∷◌, length, drop, Option, None, Some, option_map, refl, sym, ◌∙◌, ap, ap₂, subst, arith}
 use Rattle.byte_model.specs.Node.{ValueRef}
 use Rattle.trie_model.specs.Root.{Table}
-use Rattle.trie_model.proofs.Rests.{equal_of_test}
+use Rattle.trie_model.proofs.Rests.{equal_of_test, same_nibble}
 use Rattle.visit_model.specs.Seen as seen
 use Rattle.visit_model.specs.Seen.{Seen, seen_at, stated_usage}
 use Rattle.batch_model.specs.Changes.{Change}
@@ -19,7 +19,6 @@ use Rattle.update_model.specs.Sound.{StandsAt}
 use Rattle.update_model.specs.Tops.{Top, empty, leaf, branch, extension, lowered, top_behind}
 use Rattle.update_model.specs.Joins.{known}
 use Rattle.update_model.specs.Updates.{Outcome, kid_kept, laid, updated}
-use Rattle.update_model.proofs.Behind.{test_same}
 use Rattle.update_model.proofs.TopsBelow.{stands-top_behind}
 use Rattle.trie_update.specs.declared.old.Old.{Old}
 use Rattle.trie_update.specs.declared.old.Old.TheVariants.{Nothing, Leaf, Extension}
@@ -70,11 +69,11 @@ branch_apart x (y ∷ p) digest used e = ap (λ (b : Bool). if b then lowered p 
 
 leaf_behind : (x : ℕ) (p q : List ℕ) (ref : ValueRef) → p ≡ x ∷ q → top_behind x (leaf p ref) ≡ leaf q ref
 unfolding top_behind
-leaf_behind x p q ref e = ap (λ (r : List ℕ). top_behind x (leaf r ref)) e ∙ ap (λ (b : Bool). if b then leaf q ref else empty) (test_same x)
+leaf_behind x p q ref e = ap (λ (r : List ℕ). top_behind x (leaf r ref)) e ∙ ap (λ (b : Bool). if b then leaf q ref else empty) (same_nibble x)
 
 branch_behind : (x : ℕ) (p q digest : List ℕ) (used : ℕ) → p ≡ x ∷ q → top_behind x (lowered p (branch digest used)) ≡ lowered q (branch digest used)
 unfolding top_behind lowered
-branch_behind x p q digest used e = ap (λ (r : List ℕ). top_behind x (lowered r (branch digest used))) e ∙ ap (λ (b : Bool). if b then lowered q (branch digest used) else empty) (test_same x)
+branch_behind x p q digest used e = ap (λ (r : List ℕ). top_behind x (lowered r (branch digest used))) e ∙ ap (λ (b : Bool). if b then lowered q (branch digest used) else empty) (same_nibble x)
 
 -- the branch that it leads to is seen
 before_branch : (p digest : List ℕ) (used : ℕ) (below : Seen) → only_before (lowered p (branch digest used)) below ≡ below

@@ -1,17 +1,16 @@
 -- The code's subtrees in the words of the model.
-use Rattle.std.proofs.Common.{◌≡◌, ℕ, List, [], ◌∷◌, Option, None, Some, Result, Ok, IfSome, IfNone, refl, sym, ◌∙◌, ap, arith}
+use Rattle.std.proofs.Common.{◌≡◌, ℕ, List, [], ◌∷◌, Some, IfSome, IfNone, refl, sym, ◌∙◌, ap, arith}
 use Rattle.sha2.specs.Sha256.{sha256}
 use Rattle.byte_model.specs.Node as node
 use Rattle.byte_model.specs.Node.{own_cost}
 use Rattle.node_codec.specs.Meanings.{value_of}
 use Rattle.update_model.specs.Sound.{StandsAt}
 use Rattle.update_model.specs.Tops.{lowered, pending, top_digest, top_usage}
-use Rattle.trie_shape.specs.declared.close_error.CloseError.{CloseError}
 use Rattle.trie_shape.specs.declared.closed.Closed.{Closed}
 use Rattle.trie_shape.specs.declared.sub.Sub.{Sub}
 use Rattle.trie_shape.specs.declared.sub.Sub.TheVariants.{Empty, Leaf, Branch, Extension}
 use Rattle.trie_shape.specs.Shows.{MayClose, IsRecord, top_node, usage_of, digest_of, under_of}
-use Rattle.trie_shape.proofs.Shows.{name-closed, no_node, one_node, not_absent}
+use Rattle.trie_shape.proofs.Shows.{name-closed, no_node, one_node, not_absent, IsAbsent}
 use Rattle.trie_update.specs.Subs.{top_of_sub}
 
 pub usage-top : (sub : Sub) → usage_of sub ≡ top_usage (top_of_sub sub)
@@ -47,9 +46,6 @@ may-close Empty h = record { nibbles = tt; short = omega arith; shaped = no_node
 may-close (Leaf path value) h = record { nibbles = h.0; short = (let short = h.1 in omega arith); shaped = λ other. one_node (node.leaf path (value_of value)) other h.2 }
 may-close (Branch digest used) h = record { nibbles = tt; short = omega arith; shaped = no_node }
 may-close (Extension path child used) h = record { nibbles = h.0; short = (let short = h.1 in omega arith); shaped = λ other. one_node (node.extension path child.0) other h.2 }
-
-abbrev IsAbsent : Closed → Type 0
-IsAbsent closed = let result : Result (Option Closed) CloseError = Ok (Some closed) in result ≡ Ok None
 
 -- a record that was made of it
 pub record IsPending (sub : Sub) (closed : Closed) : Type 0 where

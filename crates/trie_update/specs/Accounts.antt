@@ -1,9 +1,9 @@
 -- The texts that a batch gains and loses while it goes on, one entry for each occurrence, and the keys that appear and disappear.
-use Rattle.std.specs.Prelude.{◌≡◌, ℕ, ◌+◌, ◌^◌, ◌<◌, List, [], ◌∷◌, ◌++◌, map, Option, None, Some}
+use Rattle.std.specs.Prelude.{◌≡◌, ℕ, ◌+◌, ◌^◌, ◌<◌, List, [], ◌∷◌, ◌++◌, map, Option}
 use Rattle.std.specs.List.{AllByRecursion}
 use Rattle.sha2.specs.Sha256.{sha256}
 use Rattle.byte_model.specs.Node.{ValueRef}
-use Rattle.trie_model.specs.Texts.{value_ref}
+use Rattle.update_model.specs.Updates.{value_made, value_lost, appearing, disappearing}
 use Rattle.base_core.specs.declared.hash.Digest.{Digest}
 use Rattle.trie_update.specs.declared.ledger.Ledger.{Ledger}
 
@@ -32,43 +32,9 @@ pub record Grows (old new : Ledger) (texts digests : List (List ℕ)) (appeared 
 abbrev pub IsNamed : Ledger → Type 0
 IsNamed ledger = AllByRecursion (λ g. g.digest.0 ≡ sha256 g.text) ledger.gained.items
 
--- ---- what a key has after a change
-
--- by what it had, and what the change makes of it, if there is one
-abbrev pub ref_after : Option ValueRef → Option (Option (List ℕ)) → Option ValueRef
-ref_after former None = former
-ref_after former (Some None) = None
-ref_after former (Some (Some value)) = Some (value_ref value)
-
--- the key appears
-abbrev pub appearing : {X : Type 0} → Option X → Option (Option (List ℕ)) → ℕ
-appearing former None = 0
-appearing former (Some None) = 0
-appearing None (Some (Some value)) = 1
-appearing (Some held) (Some (Some value)) = 0
-
--- the key disappears
-abbrev pub disappearing : {X : Type 0} → Option X → Option (Option (List ℕ)) → ℕ
-disappearing former None = 0
-disappearing None (Some None) = 0
-disappearing (Some held) (Some None) = 1
-disappearing former (Some (Some value)) = 0
-
--- the text of the value that is set, if one is
-abbrev pub texts_gained : Option (Option (List ℕ)) → List (List ℕ)
-texts_gained None = []
-texts_gained (Some None) = []
-texts_gained (Some (Some value)) = value ∷ []
-
--- the digest of the value that the key had, where a change takes it away or replaces it
-abbrev pub digests_lost : Option ValueRef → Option (Option (List ℕ)) → List (List ℕ)
-digests_lost former None = []
-digests_lost None (Some change) = []
-digests_lost (Some ref) (Some change) = ref.digest ∷ []
-
 -- What one key's change makes of the ledger.
 abbrev pub GrowsBy : Ledger → Ledger → Option ValueRef → Option (Option (List ℕ)) → Type 0
-GrowsBy old new former change = Grows old new (texts_gained change) (digests_lost former change) (appearing former change) (disappearing former change)
+GrowsBy old new former change = Grows old new (value_made change) (value_lost former change) (appearing former change) (disappearing former change)
 
 -- so many more keys can be counted
 abbrev pub CanCount : Ledger → ℕ → Type 0

@@ -1,11 +1,9 @@
 -- Changed keys in their order, each with what it becomes, as the rows that change_model speaks of, from some nibble of the keys on.
+pub use Rattle.update_model.specs.Sound.{Rises}
 use Rattle.std.specs.Prelude.{◌≡◌, ℕ, true, ◌≤◌, List, [], ◌∷◌, map, drop, take, length, slice_index_or, Option, IfSome, suc, if◌then◌else◌}
 use Rattle.std.specs.Option.{option_map}
 use Rattle.std.specs.Borrow.{Bor}
 use Rattle.std.specs.List.{AllByRecursion}
-use Rattle.std.specs.List.Sorted.{IsStrictlySortedBy}
-use Rattle.std.specs.Ordering.{nat_cmp}
-use Rattle.std.specs.Cmp.Lexicographic.{slice_cmp}
 use Rattle.byte_model.specs.Nibbles as path
 use Rattle.byte_model.specs.Nibbles.{AreNibbles}
 use Rattle.byte_model.specs.PackedPath.{longest_path}
@@ -16,10 +14,6 @@ use Rattle.change_model.specs.Visits.{changes_behind}
 use Rattle.trie_shape.specs.Runs.{StartsFrom, goes_on}
 
 -- ---- by paths
-
--- each path stands before those of later changes, a prefix first
-abbrev pub Rises : List Change → Type 0
-Rises changes = IsStrictlySortedBy (slice_cmp nat_cmp) (map (λ change. change.0) changes)
 
 -- each path has a nibble, and the first is at least x
 abbrev pub AllFrom : ℕ → List Change → Type 0

@@ -3,7 +3,8 @@ ghost use Rattle.std.specs.Prelude.{Some, None};
 ghost use Rattle.byte_model.specs.Node.{longest_value};
 ghost use Rattle.trie_model.specs.Texts as texts;
 ghost use Rattle.node_codec.specs.Meanings.{value_of};
-ghost use Rattle.trie_update.specs.Accounts.{ref_after, appearing, digests_lost, CanCount, Grows, GrowsBy, IsNamed};
+ghost use Rattle.update_model.specs.Updates.{appearing, ref_after, value_lost};
+ghost use Rattle.trie_update.specs.Accounts.{CanCount, Grows, GrowsBy, IsNamed};
 ghost use Rattle.trie_update.specs.ChangesAt.{value_lent};
 ghost use Rattle.trie_update.specs.declared.errors.UpdateError.TheVariants.{NoMemory};
 
@@ -83,7 +84,7 @@ fn set(
 fn replace(ledger: &mut Ledger, former: Option<ValueRef>) -> Result<(), UpdateError>
     requires room { CanCount ledger.old 1 }
     requires named { IsNamed ledger.old }
-    ensures grows { OnOk result (Grows ledger.old ledger.new [] (digests_lost (option_map value_of former) (Some None)) (appearing former (Some (Some []))) 0) }
+    ensures grows { OnOk result (Grows ledger.old ledger.new [] (value_lost (option_map value_of former) (Some None)) (appearing former (Some (Some []))) 0) }
     ensures names { OnOk result (IsNamed ledger.new) }
     ensures error { IfErr result (λ error. error ≡ NoMemory) }
 {

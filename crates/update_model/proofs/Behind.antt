@@ -6,7 +6,6 @@ use Rattle.std.specs.List.Sorted.{IsStrictlySortedBy}
 use Rattle.std.specs.Ordering.{nat_cmp}
 use Rattle.std.specs.Cmp.Lexicographic.{slice_cmp}
 use Rattle.std.proofs.lemmas.Bool.{cases_lt, false≢true, or_cases, ne_eqb}
-use Rattle.std.proofs.lemmas.Bool.Decides.{nat_tests}
 use Rattle.byte_model.specs.Below.{sum_below}
 use Rattle.byte_model.specs.Nibbles.{AreNibbles}
 use Rattle.byte_model.specs.PackedPath.{longest_path}
@@ -14,7 +13,7 @@ use Rattle.byte_model.proofs.Below.{sum_below-agree}
 use Rattle.byte_model.proofs.Digits.{AreNibbles-rest}
 use Rattle.byte_model.proofs.Lists.{AllByRecursion-weaker}
 use Rattle.trie_model.specs.Tree.{rest_behind}
-use Rattle.trie_model.proofs.Rests.{prefix_and_rest, equal_of_test, rest_behind-append}
+use Rattle.trie_model.proofs.Rests.{prefix_and_rest, equal_of_test, rest_behind-append, same_nibble}
 use Rattle.trie_model.proofs.Trees.{length-rest_behind}
 use Rattle.trie_model.proofs.Order.{Before, slice_cmp-prefix}
 use Rattle.batch_model.specs.Changes.{Change, found_at}
@@ -22,7 +21,7 @@ use Rattle.change_model.specs.Visits.{changes_behind, change_at, sets_some, any_
 use Rattle.change_model.proofs.Left.{any_below-at, any_below_from, found_sets}
 use Rattle.change_model.proofs.Laid.{same_tests}
 use Rattle.change_model.proofs.Alone.{none-behind}
-use Rattle.update_model.specs.Sound.{IsBelow, AreBelow}
+use Rattle.update_model.specs.Sound.{IsBelow, AreBelow, Rises}
 use Rattle.update_model.specs.Updates.{longest_change}
 
 -- ---- what holds of each change
@@ -46,9 +45,6 @@ rest_nibbles prefix path rest e h = AreNibbles-rest prefix rest (subst AreNibble
 abbrev pub RisingChanges : List Change → Type 0
 RisingChanges [] = ⊤
 RisingChanges (change ∷ changes) = AllByRecursion (λ later. Before change.0 later.0) changes × RisingChanges changes
-
-abbrev pub Rises : List Change → Type 0
-Rises changes = IsStrictlySortedBy (slice_cmp nat_cmp) (map (λ change. change.0) changes)
 
 all_changes : (p : List ℕ) (changes : List Change) → AllByRecursion (λ q. Before p q) (map (λ change. change.0) changes) → AllByRecursion (λ later. Before p later.0) changes
 all_changes p [] h = tt
@@ -184,18 +180,15 @@ sum-one_more f g x (suc n) h here others = elim (cases_lt x n) [
       omega arith)
 ]
 
-pub test_same : (x : ℕ) → (x == x) ≡ true
-test_same x = grind (arith, nat_tests)
-
 behind-same : (x : ℕ) (path : List ℕ) (value : Option (List ℕ)) (changes : List Change) → changes_behind (x ∷ []) ((x ∷ path, value) ∷ changes) ≡ (path, value) ∷ changes_behind (x ∷ []) changes
 unfolding changes_behind rest_behind
-behind-same x path value changes = rw (test_same x) refl
+behind-same x path value changes = rw (same_nibble x) refl
 
 behind-other : (y x : ℕ) (path : List ℕ) (value : Option (List ℕ)) (changes : List Change) → y ≢ x → changes_behind (y ∷ []) ((x ∷ path, value) ∷ changes) ≡ changes_behind (y ∷ []) changes
 unfolding changes_behind rest_behind
 behind-other y x path value changes apart = rw (ne_eqb y x apart) refl
 
-abbrev number_behind : List Change → ℕ
+abbrev pub number_behind : List Change → ℕ
 number_behind changes = sum_below (λ x. length (changes_behind (x ∷ []) changes)) 16
 
 number-none : (n : ℕ) → sum_below (λ x. length (changes_behind (x ∷ []) [])) n ≡ 0
@@ -265,7 +258,7 @@ shorter x ((y ∷ path, value) ∷ changes) =
             | inr less ↦ inr (omega arith)
           ]
       | false ↦ λ t.
-          let same = behind-other x y path value changes (λ e. false≢true (sym t ∙ ap (λ z. z == y) e ∙ test_same y)) in
+          let same = behind-other x y path value changes (λ e. false≢true (sym t ∙ ap (λ z. z == y) e ∙ same_nibble y)) in
           elim (shorter x changes) [
             | inl none ↦ inl (same ∙ none)
             | inr less ↦ (let long = ap longest_change same in inr (omega arith))
@@ -303,7 +296,7 @@ sets-go_on ((y ∷ path, value) ∷ changes) nibbles h sets = elim (or_cases (is
         elim (r.0 == y) as (λ b. (r.0 == y) ≡ b → sets_some (changes_behind (r.0 ∷ []) ((y ∷ path, value) ∷ changes)) ≡ true) [
           | true ↦ λ t. subst (λ z. sets_some (changes_behind (z ∷ []) ((y ∷ path, value) ∷ changes)) ≡ true) (sym (equal_of_test r.0 y t))
               (ap sets_some (behind-same y path value changes) ∙ or_true (is_some value) (sets_some (changes_behind (y ∷ []) changes)) (inr (subst (λ z. sets_some (changes_behind (z ∷ []) changes) ≡ true) (equal_of_test r.0 y t) r.2)))
-          | false ↦ λ t. ap sets_some (behind-other r.0 y path value changes (λ e. false≢true (sym t ∙ ap (λ z. z == y) e ∙ test_same y))) ∙ r.2
+          | false ↦ λ t. ap sets_some (behind-other r.0 y path value changes (λ e. false≢true (sym t ∙ ap (λ z. z == y) e ∙ same_nibble y))) ∙ r.2
         ] refl,
       ))
 ]

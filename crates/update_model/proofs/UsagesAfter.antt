@@ -14,9 +14,9 @@ use Rattle.update_model.specs.Tops.{Top, empty, leaf, branch, extension, lowered
 use Rattle.update_model.specs.Joins.{Kid, known, kid_usage, joint}
 use Rattle.update_model.specs.Sound.{AreBelow, StandsAt}
 use Rattle.update_model.specs.Updates.{Outcome, ref_after, parted, behind_outcome, fork_outcome, laid, no_branch, kid_kept, kid_after, kids_after, merged_kids, top_seen, digest_or_none, parts, updated}
-use Rattle.trie_model.proofs.Rests.{equal_of_test}
+use Rattle.trie_model.proofs.Rests.{equal_of_test, same_nibble}
 use Rattle.change_model.proofs.Alone.{none-behind}
-use Rattle.update_model.proofs.Behind.{one_if, length-behind, below-nibble, below-prefix, below-depth, test_same, changes_behind-nil, changes_behind-append}
+use Rattle.update_model.proofs.Behind.{one_if, length-behind, below-nibble, below-prefix, below-depth, changes_behind-nil, changes_behind-append, number_behind}
 use Rattle.update_model.proofs.Stands.{StandsAlong, where_touched_stands}
 use Rattle.update_model.proofs.StandsAfter.{short-after}
 use Rattle.update_model.proofs.Unrefused.{IsDone, missing-refused, bad-refused, leaf-done, branch-done, extension-done, alone-leaf, alone-extension}
@@ -46,9 +46,6 @@ value-after depth former changes below = go (change_at [] changes) (short-after 
     go (Some (Some value)) short = let most = value_cost-set (Some (value_ref value)) short in omega arith
 
 -- ---- joined after changes
-
-abbrev number_behind : List Change → ℕ
-number_behind changes = sum_below (λ x. length (changes_behind (x ∷ []) changes)) 16
 
 some_change : (changes : List Change) → changes ≢ [] → 1 ≤ length changes
 some_change [] some = absurd (some refl)
@@ -131,7 +128,7 @@ reached-behind most (leaf [] ref) changes over = let none = sum-none (λ x. 0) 1
 reached-behind most (leaf (y ∷ path) ref) changes over =
     let f : ℕ → ℕ = λ x. reached most (top_behind x (leaf (y ∷ path) ref)) (changes_behind (x ∷ []) changes) in
     let one = sum-only f y 16 (λ x apart. rw (ne_eqb x y apart) refl) in
-    let here : f y ≡ leaf_cost path ref = rw (test_same y) refl in
+    let here : f y ≡ leaf_cost path ref = rw (same_nibble y) refl in
     let less = (leaf_cost-cons y path ref).0 in
     omega arith
 reached-behind most (branch digest used) changes over = absurd over
@@ -139,7 +136,7 @@ reached-behind most (extension [] digest used) changes over = let none = sum-non
 reached-behind most (extension (y ∷ path) digest used) changes over =
     let f : ℕ → ℕ = λ x. reached most (top_behind x (extension (y ∷ path) digest used)) (changes_behind (x ∷ []) changes) in
     let one = sum-only f y 16 (λ x apart. rw (ne_eqb x y apart) refl) in
-    let here : f y ≡ reached most (lowered path (branch digest used)) (changes_behind (y ∷ []) changes) = rw (test_same y) refl in
+    let here : f y ≡ reached most (lowered path (branch digest used)) (changes_behind (y ∷ []) changes) = rw (same_nibble y) refl in
     let less = (extension_cost-cons y path).0 in
     let low = reached-before most path digest used (changes_behind (y ∷ []) changes) in
     let same = ap (λ (cs : List Change). if_reached cs most used) (changes_behind-append (y ∷ []) path changes) in
@@ -264,7 +261,7 @@ module _ (depth usage : ℕ) (ref : Option ValueRef) (children : ℕ → Seen) (
       go : (m : Option ℕ) → sum_below (λ x. visited x + merged_part m x) 16 ≤ sum_below visited 16 + merge_usage children m
       go None = let all = sum_below-least (λ x. visited x + 0) visited 16 (λ x h. omega arith) in omega arith
       go (Some y) = sum-one_le (λ x. visited x + (if x == y then stated_usage (children x) else 0)) visited y (stated_usage (children y)) 16
-          (λ x h apart. rw (ne_eqb x y apart) (omega arith)) (rw (test_same y) (omega arith))
+          (λ x h apart. rw (ne_eqb x y apart) (omega arith)) (rw (same_nibble y) (omega arith))
 
   whole : value_cost ref + (usage - parts ref children changes + sum_below bases 16) ≤ usage
   whole =

@@ -3,7 +3,7 @@ use Rattle.std.proofs.Common.{◌≡◌, ◌≢◌, ℕ, ◌+◌, ◌-◌, ◌<�
 use Rattle.std.specs.Prelude.{◌||◌}
 use Rattle.std.proofs.lemmas.Bool.{false≢true, or_cases, ne_eqb}
 use Rattle.byte_model.specs.Node.{ValueRef}
-use Rattle.trie_model.proofs.Rests.{equal_of_test}
+use Rattle.trie_model.proofs.Rests.{equal_of_test, same_nibble}
 use Rattle.visit_model.specs.Seen as seen
 use Rattle.visit_model.specs.Seen.{Seen}
 use Rattle.batch_model.specs.Changes.{Change, found_at}
@@ -16,7 +16,7 @@ use Rattle.update_model.specs.Tops.{Top, empty, leaf, branch, extension, lowered
 use Rattle.update_model.specs.Joins.{Kid, known, is_there, kid_top, there, joint}
 use Rattle.update_model.specs.Sound.{AreBelow, StandsAt}
 use Rattle.update_model.specs.Updates.{Outcome, ref_after, parted, behind_outcome, laid, no_branch, kid_kept, kid_after, kids_after, merged_kids, top_seen, digest_or_none, parts, updated}
-use Rattle.update_model.proofs.Behind.{below-nibble, below-prefix, changes_behind-append, changes_behind-nil, is_set, or_true, test_same, sets-behind, sets-here, sets_some-behind}
+use Rattle.update_model.proofs.Behind.{below-nibble, below-prefix, changes_behind-append, changes_behind-nil, is_set, or_true, sets-behind, sets-here, sets_some-behind}
 use Rattle.update_model.proofs.Stands.{StandsAlong, where_touched_stands}
 use Rattle.update_model.proofs.Unrefused.{IsDone, missing-refused, bad-refused, branch-done, extension-done, alone-missing, alone-bad}
 use Rattle.update_model.proofs.TopsBelow.{NoBranch}
@@ -134,7 +134,7 @@ module _ (depth : ℕ) (changes : List Change) (below : AreBelow depth changes) 
           ] refl
         where
           not_same : (x : ℕ) → (x == y) ≡ false → x ≢ y
-          not_same x t e = false≢true (sym t ∙ ap (λ z. z == y) e ∙ test_same y)
+          not_same x t e = false≢true (sym t ∙ ap (λ z. z == y) e ∙ same_nibble y)
 
       onward : (is_untouched changes || sets_some changes || whole) ≡ true → (value_after None changes || any_below inner 16) ≡ true
       onward e = elim (three (is_untouched changes) (sets_some changes) whole e) [
@@ -166,7 +166,7 @@ module _ (depth : ℕ) (changes : List Change) (below : AreBelow depth changes) 
                       | inr kept ↦ three_from (is_untouched changes) (sets_some changes) whole (inr kept)
                     ]
                   ]
-              | false ↦ λ t. from_sets r.0 (sym (at_others r.0 (λ e. false≢true (sym t ∙ ap (λ z. z == y) e ∙ test_same y))) ∙ r.2)
+              | false ↦ λ t. from_sets r.0 (sym (at_others r.0 (λ e. false≢true (sym t ∙ ap (λ z. z == y) e ∙ same_nibble y))) ∙ r.2)
             ] refl)
       ]
 
@@ -184,7 +184,7 @@ module _ (further : List Change → Bool) (none : further [] ≡ true) where
   left_of-fork depth (leaf (y ∷ path) ref) changes over stands below some =
       let found = found_at-changes_behind (y ∷ []) path changes in
       fork-on depth changes below some y stands.0.0 (λ x. left_of further (top_behind x (leaf (y ∷ path) ref)) (changes_behind (x ∷ []) changes)) (not (is_deleted (y ∷ path) changes))
-      (rw (test_same y) (ap (λ o. is_untouched (changes_behind (y ∷ []) changes) || sets_some (changes_behind (y ∷ []) changes) || not (is_deletion o)) found))
+      (rw (same_nibble y) (ap (λ o. is_untouched (changes_behind (y ∷ []) changes) || sets_some (changes_behind (y ∷ []) changes) || not (is_deletion o)) found))
       (λ x apart. rw (ne_eqb x y apart) refl)
       (λ e. ap (λ o. not (is_deletion o)) (sym found ∙ ap (λ (cs : List Change). found_at path cs) e))
   left_of-fork depth (branch digest used) changes over stands below some = absurd over
@@ -192,7 +192,7 @@ module _ (further : List Change → Bool) (none : further [] ≡ true) where
   left_of-fork depth (extension (y ∷ path) digest used) changes over stands below some =
       let behind = changes_behind-append (y ∷ []) path changes in
       fork-on depth changes below some y stands.0.0 (λ x. left_of further (top_behind x (extension (y ∷ path) digest used)) (changes_behind (x ∷ []) changes)) (further (changes_behind (y ∷ path) changes))
-      (rw (test_same y) (left_of-lowered path digest used (changes_behind (y ∷ []) changes) ∙ ap (λ (cs : List Change). is_untouched (changes_behind (y ∷ []) changes) || sets_some (changes_behind (y ∷ []) changes) || further cs) (sym behind)))
+      (rw (same_nibble y) (left_of-lowered path digest used (changes_behind (y ∷ []) changes) ∙ ap (λ (cs : List Change). is_untouched (changes_behind (y ∷ []) changes) || sets_some (changes_behind (y ∷ []) changes) || further cs) (sym behind)))
       (λ x apart. rw (ne_eqb x y apart) refl)
       (λ e. ap further (behind ∙ ap (changes_behind path) e ∙ none-behind path) ∙ none)
 
@@ -317,7 +317,7 @@ module _ (ref : Option ValueRef) (children : ℕ → Seen) (changes : List Chang
         go : (cs : List Change) → changes_behind (x ∷ []) changes ≡ cs → kids x ≡ known (kid_top (kids x))
         go [] e =
             let is : merged ≡ Some x = merged_is ∙ ap (λ (cs : List Change). if is_untouched cs then Some x else None) e in
-            let here : kids x ≡ known (top_seen (children x)) = ap (λ (m : Option ℕ). merged_kids m children inner x) is ∙ ap (λ (b : Bool). if b then known (top_seen (children x)) else inner x) (test_same x) in
+            let here : kids x ≡ known (top_seen (children x)) = ap (λ (m : Option ℕ). merged_kids m children inner x) is ∙ ap (λ (b : Bool). if b then known (top_seen (children x)) else inner x) (same_nibble x) in
             subst (λ (k : Kid). k ≡ known (kid_top k)) (sym here) refl
         go (c ∷ cs) e =
             let is : merged ≡ None = merged_is ∙ ap (λ (cs : List Change). if is_untouched cs then Some x else None) e in

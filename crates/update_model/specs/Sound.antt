@@ -16,9 +16,13 @@ pub record IsBelow (depth : ℕ) (change : Change) : Type 0 where
   pub short : depth + length change.0 ≤ longest_path
   pub value : IfSome change.1 (λ v. length v ≤ longest_value)
 
+-- each path stands before those of later changes, a prefix first
+abbrev pub Rises : List Change → Type 0
+Rises changes = IsStrictlySortedBy (slice_cmp nat_cmp) (map (λ change. change.0) changes)
+
 -- some of them, by rising path, each path once
 pub record AreBelow (depth : ℕ) (changes : List Change) : Type 0 where
-  pub rise : IsStrictlySortedBy (slice_cmp nat_cmp) (map (λ change. change.0) changes)
+  pub rise : Rises changes
   pub each : AllByRecursion (IsBelow depth) changes
 
 -- a top whose record can be made at a depth
