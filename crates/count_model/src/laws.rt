@@ -1,0 +1,1 @@
+//! Laws over the definitions, in other words than theirs. A law is proved where its function is: there is nothing to run.
