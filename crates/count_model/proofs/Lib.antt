@@ -1,0 +1,2 @@
+-- worked histories by computing
+pub mod Worked
