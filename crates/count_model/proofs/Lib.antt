@@ -8,3 +8,13 @@ pub mod Counted
 pub mod Live
 -- the laws on counts
 pub mod Told
+-- tables that hold what is counted
+pub mod Held
+-- texts and their digests are counted alike
+pub mod Alike
+-- the texts of a state after a batch
+pub mod Completed
+-- the states of live blocks keep to the limits
+pub mod Limits
+-- counts that are changed entry by entry
+pub mod ByEntries

@@ -35,14 +35,14 @@ in_flat_map_from {X} {Y} f (z ∷ xs) y i = go (λ j. in_flat_map_from f xs y j)
     go further (inr h) = let rest = further h in (rest.0, inr rest.1, rest.2)
 
 -- how many pass a test
-count-some : {X : Type 0} (test : X → Bool) (xs : List X) → 1 ≤ count_by test xs → (x : X) × IsIn xs x × (test x ≡ true)
+pub count-some : {X : Type 0} (test : X → Bool) (xs : List X) → 1 ≤ count_by test xs → (x : X) × IsIn xs x × (test x ≡ true)
 count-some {X} test xs some = let one = sum_by-some (λ x. cond (test x) 1 0) xs some in (one.0, one.1, passes (test one.0) one.2)
   where
     passes : (b : Bool) → 1 ≤ cond b 1 0 → b ≡ true
     passes true h = refl
     passes false h = absurd (omega (arith, h))
 
-count-member : {X : Type 0} (test : X → Bool) (xs : List X) (x : X) → IsIn xs x → test x ≡ true → 1 ≤ count_by test xs
+pub count-member : {X : Type 0} (test : X → Bool) (xs : List X) (x : X) → IsIn xs x → test x ≡ true → 1 ≤ count_by test xs
 count-member test xs x i passes = subst (λ b. cond b 1 0 ≤ count_by test xs) passes (sum_by-member (λ x. cond (test x) 1 0) xs x i)
 
 -- ---- occurrences

@@ -1,16 +1,22 @@
 //! Laws over the definitions, in other words than theirs. A law is proved where its function is: there is nothing to run.
 
-ghost use Rattle.std.specs.Prelude.{◌≡◌, ◌+◌, ◌-◌, ◌≤◌, ◌↔◌, ℕ, true, false, List, [], Contains, sum_by, None, Some};
+ghost use Rattle.std.specs.Prelude.{◌≡◌, ◌≢◌, ◌+◌, ◌-◌, ◌^◌, ◌≤◌, ◌↔◌, ◌⊎◌, ℕ, nat_lt, true, false, List, [], ◌∷◌, ◌++◌, length, map, flat_map, Contains, sum_by, None, Some};
+ghost use Rattle.std.specs.List.{AllByRecursion};
+ghost use Rattle.std.specs.FinMap.{contains_key, entries, get};
+ghost use Rattle.std.specs.List.Sorted.{IsStrictlySortedBy};
+ghost use Rattle.std.specs.Ordering.{nat_cmp};
+ghost use Rattle.std.specs.Cmp.Lexicographic.{slice_cmp};
 ghost use Rattle.std.specs.Str.{bytes_eq};
 ghost use Rattle.sha2.specs.Sha256.{sha256};
-ghost use Rattle.trie_model.specs.State.{State};
-ghost use Rattle.trie_model.specs.Root.{occurrences, texts_of};
-ghost use Rattle.batch_model.specs.Changes.{Changes, after};
-ghost use Rattle.change_model.specs.Ledger.{gain, loss};
+ghost use Rattle.trie_model.specs.State.{State, IsState};
+ghost use Rattle.trie_model.specs.Root.{Holds, NoClash, Table, digest_occurrences, occurrences, root, texts_of, zero_digest};
+ghost use Rattle.batch_model.specs.Changes.{AreChanges, Changes, after};
+ghost use Rattle.change_model.specs.Ledger.{gain, loss, made_texts};
 ghost use Rattle.fork_model.specs.Trees.{Header, block_fault, dropped, is_live, passed};
 ghost use Rattle.fork_model.specs.States.{Block, ForkState, IsForkState, block_at, first_fork, head_moved, state_at, tree_of_blocks, with_block};
 ghost use Rattle.count_model.specs.Counts.{Measure, count, counted, digest_count, fall, in_state, of_digest, of_text, rise, taken_away};
-ghost use Rattle.count_model.specs.Tables.{live_texts};
+ghost use Rattle.count_model.specs.Entries.{Entry, Exceeds, times_of};
+ghost use Rattle.count_model.specs.Tables.{AreStates, HoldsCounted, live_texts};
 
 // ---- counts, as blocks are accepted and the head moves
 
@@ -46,4 +52,74 @@ pub fn texts_of_live_blocks_are_counted()
     ensures digests { (forks : ForkState) (digest : List ℕ) → IsForkState forks → (1 ≤ digest_count forks digest) ↔ ((t : List ℕ) × Contains (live_texts forks) t × (sha256 t ≡ digest)) }
     ensures states { (forks : ForkState) (id t : List ℕ) (state : State) → IsForkState forks → state_at forks id ≡ Some state → Contains (texts_of state) t → Contains (live_texts forks) t }
     ensures most { (measure : Measure) (forks : ForkState) (id : List ℕ) (state : State) → IsForkState forks → state_at forks id ≡ Some state → measure state ≤ counted measure forks }
+{}
+
+// ---- tables
+
+/// A table that has exactly the counted texts holds the state of each live block, and has something under a digest exactly where the digest is counted. No two texts of live blocks clash then. And a table that holds each live state, and has nothing under a digest that is not counted, is one.
+pub fn counted_texts_hold_live_states()
+    ensures holds { (table : Table) (forks : ForkState) (id : List ℕ) (state : State) → IsForkState forks → HoldsCounted table forks → state_at forks id ≡ Some state → Holds table state }
+    ensures no_clash { (table : Table) (forks : ForkState) → IsForkState forks → HoldsCounted table forks → NoClash (live_texts forks) }
+    ensures digests { (table : Table) (forks : ForkState) (digest : List ℕ) → IsForkState forks → HoldsCounted table forks → contains_key table digest ≡ nat_lt 0 (digest_count forks digest) }
+    ensures exactly { (table : Table) (forks : ForkState) → IsForkState forks → AllByRecursion (λ block. Holds table block.state) forks.blocks → ((digest t : List ℕ) → get table digest ≡ Some t → 1 ≤ digest_count forks digest) → HoldsCounted table forks }
+{}
+
+/// Over such a table two live blocks have one root exactly where they have one state.
+pub fn equal_roots_mean_equal_live_states()
+    ensures { (table : Table) (forks : ForkState) (a b : List ℕ) (m n : State) → IsForkState forks → AreStates forks → HoldsCounted table forks → state_at forks a ≡ Some m → state_at forks b ≡ Some n → (root m ≡ root n) ↔ (m ≡ n) }
+{}
+
+/// The texts of the state after a batch are texts of the state before it or made by the batch, and what is made is among them. A digest that gains is that of a text that is made. So a table that holds the state before and each text that is made holds the state afterwards.
+pub fn made_texts_complete_a_state()
+    ensures texts { (state : State) (changes : Changes) (t : List ℕ) → Contains (texts_of (after state changes)) t → Contains (texts_of state) t ⊎ Contains (made_texts state changes) t }
+    ensures made { (state : State) (changes : Changes) (t : List ℕ) → Contains (made_texts state changes) t → Contains (texts_of (after state changes)) t }
+    ensures gained { (state : State) (changes : Changes) (digest : List ℕ) → 1 ≤ gain state changes digest → (t : List ℕ) × Contains (made_texts state changes) t × (sha256 t ≡ digest) }
+    ensures holds { (table : Table) (state : State) (changes : Changes) → Holds table state → ((t : List ℕ) → Contains (made_texts state changes) t → (get table (sha256 t) ≡ Some t) × (sha256 t ≢ zero_digest)) → Holds table (after state changes) }
+{}
+
+// ---- texts and digests
+
+/// Where no other text has a text's digest, the digest occurs as often as the text, and so it is with gains, losses and counts. So it is for each text of a table that has exactly the counted texts.
+pub fn texts_and_digests_count_alike()
+    ensures state { (state : State) (t : List ℕ) → NoClash (t ∷ texts_of state) → digest_occurrences state (sha256 t) ≡ occurrences state t }
+    ensures gain { (state : State) (changes : Changes) (t : List ℕ) → NoClash (t ∷ texts_of state ++ texts_of (after state changes)) → gain state changes (sha256 t) ≡ occurrences (after state changes) t - occurrences state t }
+    ensures loss { (state : State) (changes : Changes) (t : List ℕ) → NoClash (t ∷ texts_of state ++ texts_of (after state changes)) → loss state changes (sha256 t) ≡ occurrences state t - occurrences (after state changes) t }
+    ensures forks { (forks : ForkState) (t : List ℕ) → NoClash (t ∷ live_texts forks) → digest_count forks (sha256 t) ≡ count forks t }
+    ensures held { (table : Table) (forks : ForkState) (t : List ℕ) → IsForkState forks → HoldsCounted table forks → get table (sha256 t) ≡ Some t → digest_count forks (sha256 t) ≡ count forks t }
+{}
+
+// ---- entry by entry
+
+/// Entries that rise by their digests tell a number for each digest, where each entry tells its own and no digest is left out that has one. What a move takes away is told by the entries of the losses of the blocks that it passes, and of the gains of those that it drops.
+pub fn entries_tell_numbers()
+    ensures once { (number : List ℕ → ℕ) (entries : List Entry) (digest : List ℕ) → IsStrictlySortedBy (slice_cmp nat_cmp) (map (λ entry. entry.0) entries) → AllByRecursion (λ entry. entry.1 ≡ number entry.0) entries → ((d : List ℕ) → 1 ≤ number d → Contains (map (λ entry. entry.0) entries) d) → times_of entries digest ≡ number digest }
+    ensures moved { (forks : ForkState) (id : List ℕ) (lost made : List ℕ → List Entry) (digest : List ℕ) → ((q : List ℕ) → Contains (passed (tree_of_blocks forks) id) q → times_of (lost q) digest ≡ fall (of_digest digest) forks q) → ((q : List ℕ) → Contains (dropped (tree_of_blocks forks) id) q → times_of (made q) digest ≡ rise (of_digest digest) forks q) → times_of (flat_map lost (passed (tree_of_blocks forks) id) ++ flat_map made (dropped (tree_of_blocks forks) id)) digest ≡ taken_away (of_digest digest) forks id }
+{}
+
+/// On the way down from the counts before a move to those behind it, entry by entry: each entry can be released, and what is held stands between the two.
+pub fn counts_go_down_entry_by_entry()
+    ensures begins { (forks : ForkState) (id : List ℕ) (left : List Entry) → IsForkState forks → is_live (tree_of_blocks forks) id ≡ true → ((digest : List ℕ) → times_of left digest ≡ taken_away (of_digest digest) forks id) → Exceeds (digest_count (head_moved forks id)) (digest_count forks) left }
+    ensures enough { (low held : List ℕ → ℕ) (digest : List ℕ) (n : ℕ) (left : List Entry) → Exceeds low held ((digest, n) ∷ left) → n ≤ held digest }
+    ensures step { (low held : List ℕ → ℕ) (digest : List ℕ) (n : ℕ) (left : List Entry) → Exceeds low held ((digest, n) ∷ left) → (next : List ℕ → ℕ) → next digest ≡ held digest - n → ((other : List ℕ) → other ≢ digest → next other ≡ held other) → Exceeds low next left }
+    ensures between { (low first held : List ℕ → ℕ) (done left : List Entry) → Exceeds low first (done ++ left) → Exceeds low held left → (digest : List ℕ) → (low digest ≤ held digest) × (held digest ≤ first digest) }
+    ensures end { (low held : List ℕ → ℕ) → Exceeds low held [] → (digest : List ℕ) → low digest ≡ held digest }
+{}
+
+/// And on the way up from the counts before a block to those with it: none goes past the latter.
+pub fn counts_go_up_entry_by_entry()
+    ensures begins { (most : ℕ) (forks : ForkState) (header : Header) (changes : Changes) (prev : State) (left : List Entry) → IsForkState forks → block_fault most (tree_of_blocks forks) header ≡ None → state_at forks header.prev ≡ Some prev → ((digest : List ℕ) → times_of left digest ≡ gain prev changes digest) → Exceeds (digest_count forks) (digest_count (with_block forks header changes)) left }
+    ensures fits { (held high : List ℕ → ℕ) (digest : List ℕ) (n : ℕ) (left : List Entry) → Exceeds held high ((digest, n) ∷ left) → held digest + n ≤ high digest }
+    ensures step { (held high : List ℕ → ℕ) (digest : List ℕ) (n : ℕ) (left : List Entry) → Exceeds held high ((digest, n) ∷ left) → (next : List ℕ → ℕ) → next digest ≡ held digest + n → ((other : List ℕ) → other ≢ digest → next other ≡ held other) → Exceeds next high left }
+    ensures between { (first held high : List ℕ → ℕ) (done left : List Entry) → Exceeds first high (done ++ left) → Exceeds held high left → (digest : List ℕ) → (first digest ≤ held digest) × (held digest ≤ high digest) }
+    ensures end { (held high : List ℕ → ℕ) → Exceeds held high [] → (digest : List ℕ) → held digest ≡ high digest }
+{}
+
+// ---- limits
+
+/// The states of live blocks keep to the limits, where those of the blocks' changes do and no state has too many pairs.
+pub fn live_states_keep_to_limits()
+    ensures start { AreStates first_fork }
+    ensures block { (forks : ForkState) (header : Header) (changes : Changes) (prev : State) → AreStates forks → AreChanges changes → state_at forks header.prev ≡ Some prev → length (entries (after prev changes)) ≤ 2 ^ 32 → AreStates (with_block forks header changes) }
+    ensures moved { (forks : ForkState) (id : List ℕ) → AreStates forks → AreStates (head_moved forks id) }
+    ensures states { (forks : ForkState) (id : List ℕ) (state : State) → AreStates forks → state_at forks id ≡ Some state → IsState state }
 {}
