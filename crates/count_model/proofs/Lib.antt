@@ -18,3 +18,5 @@ pub mod Completed
 pub mod Limits
 -- counts that are changed entry by entry
 pub mod ByEntries
+-- which texts clash
+pub mod Clashing

@@ -15,6 +15,8 @@ ghost use Rattle.change_model.specs.Ledger.{gain, loss, made_texts};
 ghost use Rattle.fork_model.specs.Trees.{Header, block_fault, dropped, is_live, passed};
 ghost use Rattle.fork_model.specs.States.{Block, ForkState, IsForkState, block_at, first_fork, head_moved, state_at, tree_of_blocks, with_block};
 ghost use Rattle.count_model.specs.Counts.{Measure, count, counted, digest_count, fall, in_state, of_digest, of_text, rise, taken_away};
+ghost use Rattle.count_model.specs.Clashes.{clash_with, clash_within, live_clash, made_clash};
+ghost use Rattle.count_model.specs.Laws.{Clashes, IsLeast, IsShared};
 ghost use Rattle.count_model.specs.Entries.{Entry, Exceeds, times_of};
 ghost use Rattle.count_model.specs.Tables.{AreStates, HoldsCounted, live_texts};
 
@@ -122,4 +124,14 @@ pub fn live_states_keep_to_limits()
     ensures block { (forks : ForkState) (header : Header) (changes : Changes) (prev : State) → AreStates forks → AreChanges changes → state_at forks header.prev ≡ Some prev → length (entries (after prev changes)) ≤ 2 ^ 32 → AreStates (with_block forks header changes) }
     ensures moved { (forks : ForkState) (id : List ℕ) → AreStates forks → AreStates (head_moved forks id) }
     ensures states { (forks : ForkState) (id : List ℕ) (state : State) → AreStates forks → state_at forks id ≡ Some state → IsState state }
+{}
+
+// ---- clashes
+
+/// The least name is told that two different texts have, or that is zero, and none exactly where there is no such name.
+pub fn least_clashes_are_told()
+    ensures within { (name : List ℕ → List ℕ) (made : List (List ℕ)) (digest : List ℕ) → (clash_within name made ≡ Some digest) ↔ IsLeast (IsShared name made made) digest }
+    ensures none_within { (name : List ℕ → List ℕ) (made : List (List ℕ)) → (clash_within name made ≡ None) ↔ ((digest : List ℕ) → IsShared name made made digest → ⊥) }
+    ensures with_held { (name : List ℕ → List ℕ) (held made : List (List ℕ)) (digest : List ℕ) → (clash_with name held made ≡ Some digest) ↔ IsLeast (Clashes name held made) digest }
+    ensures none_with_held { (name : List ℕ → List ℕ) (held made : List (List ℕ)) → (clash_with name held made ≡ None) ↔ ((digest : List ℕ) → Clashes name held made digest → ⊥) }
 {}
