@@ -20,3 +20,5 @@ pub mod Limits
 pub mod ByEntries
 -- which texts clash
 pub mod Clashing
+-- how many texts a state has
+pub mod Bounded
