@@ -1,11 +1,14 @@
 -- A state has at most four texts for each pair, so counts stay small.
-use Rattle.std.proofs.Common.{◌≡◌, ℕ, zero, suc, ◌+◌, ◌*◌, ◌^◌, ◌≤◌, ◌<◌, ◌&&◌, not, Bool, true, false, cond, List, [], ◌∷◌, ◌++◌, length, map, Option, None, Some, IfSome, option_map, is_some, refl, sym, ◌∙◌, ap, ap₂, subst, arith, length-append, mul-le-mul_right, mul-le-mul_left}
-use Rattle.std.specs.List.{count_by, sum_by}
+use Rattle.std.proofs.Common.{◌≡◌, ℕ, zero, suc, ◌+◌, ◌-◌, ◌*◌, ◌^◌, ◌≤◌, ◌&&◌, not, nat_eq, Bool, true, false, cond, List, [], ◌∷◌, ◌++◌, length, map, Option, None, Some, option_map, is_some, refl, sym, ◌∙◌, ap, ap₂, subst, arith, length-append, mul-le-mul_right}
+use Rattle.std.specs.List.{AllByRecursion, sum_by}
+use Rattle.std.specs.Cmp.Lexicographic.{pointwise}
 use Rattle.std.proofs.lemmas.Bool.{and_parts}
 use Rattle.std.proofs.lemmas.List.{length-map}
 use Rattle.std.proofs.lemmas.List.Sums.{count_by-le-length}
 use Rattle.std.specs.FinMap.{entries}
 use mathlib.Core.Path.{fun_ext}
+use Rattle.sha2.specs.Sha256.{sha256}
+use Rattle.byte_model.specs.Nibbles.{nibbles}
 use Rattle.byte_model.specs.Below.{sum_below, joined_below}
 use Rattle.byte_model.proofs.Below.{sum_below-le}
 use Rattle.byte_model.specs.Node as node
@@ -16,10 +19,18 @@ use Rattle.trie_model.specs.State.{State, IsState, Row, rows_of}
 use Rattle.trie_model.specs.Tree.{Tree, nothing, leaf, branch, extension, tree_of}
 use Rattle.trie_model.specs.Grown.{here, under}
 use Rattle.trie_model.specs.Texts.{behind, name_of, node_of, places, text, value_ref}
-use Rattle.trie_model.specs.Root.{places_of, subtree_at, text_at, texts_of}
+use Rattle.trie_model.specs.Root.{digest_occurrences, occurrences, places_of, subtree_at, text_at, texts_of}
 use Rattle.trie_model.proofs.Costs.{subtree_at-root}
 use Rattle.trie_model.proofs.Order.{rising-rows_of}
 use Rattle.trie_model.proofs.Pairs.{held, held-tree_of, small-rows_of}
+use Rattle.trie_model.proofs.Members.{IsIn, all_at, all_of}
+use Rattle.fork_model.specs.Trees.{Header, ids_of}
+use Rattle.fork_model.specs.States.{Block, ForkState, IsForkState, state_at, tree_of_blocks}
+use Rattle.count_model.specs.Counts.{Measure, count, counted, digest_count, in_state, of_digest, of_text, prev_state_at, rise}
+use Rattle.count_model.specs.Tables.{AreStates}
+use Rattle.count_model.proofs.Sums.{sum_by-bound}
+use Rattle.count_model.proofs.Counted.{counted-all}
+use Rattle.count_model.proofs.Live.{block-in, block-of_state}
 use Rattle.visit_model.proofs.ShownFits.{FitsBelow, IsThere, TopFits, state_fits}
 
 -- ---- lists joined
@@ -134,3 +145,91 @@ module _ where
       let e = size-extension path child in
       let f = pairs-extension path child in
       omega (arith, below, e, f)
+
+-- ---- texts of a state
+
+few : (tree : Tree) → FitsBelow 0 false tree → size tree ≤ 3 * pairs tree
+unfolding Fewer places held
+few nothing fits = omega arith
+few (leaf path value) fits = let h = fewer (leaf path value) 0 false fits tt in omega (arith, h)
+few (branch value kids) fits = let h = fewer (branch value kids) 0 false fits tt in omega (arith, h)
+few (extension path child) fits = let h = fewer (extension path child) 0 false fits tt in omega (arith, h)
+
+count_rows : (state : State) → length (rows_of state) ≡ length (entries state)
+unfolding rows_of
+count_rows state = length-map (entries state) (λ (pair : List ℕ × List ℕ). (nibbles pair.0, pair.1))
+
+pub texts-few : (state : State) → IsState state → length (texts_of state) ≤ 4 * length (entries state)
+unfolding texts_of
+texts-few state is =
+    let whole : length (map (text_at state) (places_of state) ++ map (λ (row : Row). row.1) (rows_of state)) ≡ length (places_of state) + length (rows_of state)
+    = length-append (map (text_at state) (places_of state)) (map (λ (row : Row). row.1) (rows_of state)) ∙ ap₂ (λ (a b : ℕ). a + b) (length-map (places_of state) (text_at state)) (length-map (rows_of state) (λ (row : Row). row.1)) in
+    let rows : length (rows_of state) ≡ length (entries state) = count_rows state in
+    let kept : pairs (subtree_at state []) ≡ length (rows_of state) = ap pairs (subtree_at-root state) ∙ ap length (held-tree_of (rows_of state) (rising-rows_of state) (small-rows_of state is)) in
+    let most = few (subtree_at state []) (state_fits state is) in
+    omega (arith, whole, rows, kept, most)
+
+pub occurrences-few : (state : State) (t : List ℕ) → IsState state → occurrences state t ≤ 4 * length (entries state)
+occurrences-few state t is =
+    let all = texts-few state is in
+    let some = count_by-le-length (λ other. pointwise nat_eq other t) (texts_of state) in
+    omega (arith, all, some)
+
+pub digest_occurrences-few : (state : State) (digest : List ℕ) → IsState state → digest_occurrences state digest ≤ 4 * length (entries state)
+digest_occurrences-few state digest is =
+    let all = texts-few state is in
+    let some = count_by-le-length (λ other. pointwise nat_eq (sha256 other) digest) (texts_of state) in
+    omega (arith, all, some)
+
+-- ---- counts
+
+module _ (measure : Measure) (bound : ℕ) (forks : ForkState) (is : IsForkState forks) (each : (b : Block) → IsIn forks.blocks b → measure b.state ≤ bound) where
+  in_state-few : (q : List ℕ) → in_state measure (state_at forks q) ≤ bound
+  in_state-few q = by_case (state_at forks q) refl
+    where
+      by_case : (o : Option State) → state_at forks q ≡ o → in_state measure o ≤ bound
+      by_case None e = omega arith
+      by_case (Some s) e = let b = block-of_state forks q s e in subst (λ (x : State). measure x ≤ bound) b.2 (each b.0 (block-in forks q b.0 b.1))
+
+  rise-few : (q : List ℕ) → rise measure forks q ≤ bound
+  unfolding rise
+  rise-few q = less (in_state measure (state_at forks q)) (in_state measure (prev_state_at forks q)) (in_state-few q)
+    where
+      less : (here former : ℕ) → here ≤ bound → here - former ≤ bound
+      less here former h = omega (arith, h)
+
+  pub counted-few : counted measure forks ≤ length forks.blocks * bound
+  counted-few =
+      let ids : List (List ℕ) = ids_of (tree_of_blocks forks).blocks in
+      let live : length ids ≡ length forks.blocks = length-map (tree_of_blocks forks).blocks (λ (h : Header). h.id) ∙ length-map forks.blocks (λ (b : Block). b.header) in
+      subst (λ n. n ≤ length forks.blocks * bound) (sym (counted-all measure forks is))
+      (subst (λ n. sum_by (rise measure forks) ids ≤ n * bound) live (sum_by-bound (rise measure forks) bound ids (λ q i. rise-few q)))
+
+-- of the states of live blocks, where each has at most so many pairs
+module _ (most : ℕ) (forks : ForkState) (is : IsForkState forks) (are : AreStates forks) (pairs_few : AllByRecursion (λ block. length (entries block.state) ≤ most) forks.blocks) where
+  fourfold : (measure : Measure) → ((state : State) → IsState state → measure state ≤ 4 * length (entries state)) → (b : Block) → IsIn forks.blocks b → measure b.state ≤ 4 * most
+  fourfold measure each b i =
+      let here = each b.state (all_at (λ block. IsState block.state) forks.blocks b are i) in
+      let pairs = all_at (λ block. length (entries block.state) ≤ most) forks.blocks b pairs_few i in
+      omega (arith, here, pairs)
+
+  pub count-few : (t : List ℕ) → count forks t ≤ length forks.blocks * (4 * most)
+  count-few t = counted-few (of_text t) (4 * most) forks is (fourfold (of_text t) (λ state. occurrences-few state t))
+
+  pub digest_count-few : (digest : List ℕ) → digest_count forks digest ≤ length forks.blocks * (4 * most)
+  digest_count-few digest = counted-few (of_digest digest) (4 * most) forks is (fourfold (of_digest digest) (λ state. digest_occurrences-few state digest))
+
+-- of up to 4,096 live blocks
+few_pairs : (forks : ForkState) → AreStates forks → AllByRecursion (λ block. length (entries block.state) ≤ 2 ^ 32) forks.blocks
+few_pairs forks are = all_of (λ block. length (entries block.state) ≤ 2 ^ 32) forks.blocks (λ b i. (all_at (λ block. IsState block.state) forks.blocks b are i).few)
+
+far_below : (n live : ℕ) → live ≤ 4096 → n ≤ live * (4 * 2 ^ 32) → n ≤ 2 ^ 46
+far_below n live few h =
+    let most : live * (4 * 2 ^ 32) ≤ 4096 * (4 * 2 ^ 32) = mul-le-mul_right (4 * 2 ^ 32) few in
+    omega (arith, most, h)
+
+pub count-small : (forks : ForkState) (t : List ℕ) → IsForkState forks → AreStates forks → length forks.blocks ≤ 4096 → count forks t ≤ 2 ^ 46
+count-small forks t is are few = far_below (count forks t) (length forks.blocks) few (count-few (2 ^ 32) forks is are (few_pairs forks are) t)
+
+pub digest_count-small : (forks : ForkState) (digest : List ℕ) → IsForkState forks → AreStates forks → length forks.blocks ≤ 4096 → digest_count forks digest ≤ 2 ^ 46
+digest_count-small forks digest is are few = far_below (digest_count forks digest) (length forks.blocks) few (digest_count-few (2 ^ 32) forks is are (few_pairs forks are) digest)

@@ -1,15 +1,17 @@
 -- Which texts clash, and that none do where nothing is told.
 use Rattle.std.proofs.Common.{◌≡◌, ◌≢◌, ◌↔◌, ℕ, nat_eq, Bool, true, false, cond, not, ◌&&◌, ◌||◌, List, [], ◌∷◌, ◌++◌, map, Option, None, Some, MatchOption, IsTrue, Contains, ◌⊎◌, inl, inr, ⊎_elim, refl, sym, ◌∙◌, ap, ap₂, subst}
 use Rattle.std.specs.List.{filter, list_any}
+use Rattle.std.specs.Option.{IsSomeAnd}
+use Rattle.std.specs.FinMap.{get}
 use Rattle.std.specs.declared.cmp.Ordering.{Ordering}
 use Rattle.std.specs.declared.cmp.Ordering.TheVariants.{Less, Equal, Greater}
 use Rattle.std.specs.Ordering.{is_le, is_lt, nat_cmp, ordering_reverse}
 use Rattle.std.specs.Cmp.Lexicographic.{slice_cmp, pointwise, nat_list_cmp_total}
 use Rattle.sha2.specs.Sha256.{sha256}
 use Rattle.trie_model.specs.State.{State}
-use Rattle.trie_model.specs.Root.{NoClash, texts_of, zero_digest}
+use Rattle.trie_model.specs.Root.{NoClash, Table, texts_of, zero_digest}
 use Rattle.trie_model.proofs.Members.{IsIn, contains_of_in, in_of_contains, in-append_cases, in-map, in_map_from}
-use Rattle.trie_model.proofs.Growth.{NotAfter, slice_cmp-itself}
+use Rattle.trie_model.proofs.Growth.{NotAfter, not_after_itself}
 use Rattle.batch_model.specs.Changes.{Changes, after}
 use Rattle.batch_model.proofs.Laying.{same_key}
 use Rattle.change_model.specs.Ledger.{made_texts}
@@ -17,15 +19,16 @@ use Rattle.change_model.proofs.Filtered.{in_filter, in_filter_from}
 use Rattle.change_model.proofs.Unchanged.{made_before}
 use Rattle.partial_model.specs.Texts.{lesser}
 use Rattle.partial_model.proofs.Clashes.{not_after_then}
-use Rattle.fork_model.specs.States.{Block, ForkState, IsForkState, block_at, state_at, with_block}
+use Rattle.fork_model.specs.Trees.{Header, descends}
+use Rattle.fork_model.specs.States.{Block, ForkState, IsForkState, head_moved, state_at, tree_of_blocks, with_block}
 use Rattle.fork_model.proofs.Ids.{apart_from, apart_is, same-itself, same_from, same_or_other}
 use Rattle.fork_model.proofs.States.{over_prev, with_block-is}
 use Rattle.count_model.specs.Clashes.{clash_with, clash_within, least_name, live_clash, made_clash, share_name}
 use Rattle.count_model.specs.Laws.{Clashes, IsLeast, IsShared, shared_name, zero_name}
-use Rattle.count_model.specs.Tables.{live_texts}
+use Rattle.count_model.specs.Tables.{HoldsCounted, live_texts}
 use Rattle.count_model.proofs.Completed.{new_texts}
 use Rattle.count_model.proofs.Held.{NoClash-part}
-use Rattle.count_model.proofs.Live.{block-of_state, live-of_state, live-in, live_in_from}
+use Rattle.count_model.proofs.Live.{block-of_state, live-of_state, live-in, live_in_from, texts-counted}
 
 -- ---- the order of names
 
@@ -51,12 +54,6 @@ is_less : (o : Ordering) → is_lt o ≡ true → o ≢ Greater
 is_less Less h e = cc
 is_less Equal h e = cc
 is_less Greater h e = cc
-
-not_after_itself : (p : List ℕ) → NotAfter p p
-not_after_itself p e = different (sym (slice_cmp-itself p) ∙ e)
-  where
-    different : Equal ≡ Greater → ⊥
-    different e = cc
 
 both_ways : (p q : List ℕ) → NotAfter p q → NotAfter q p → p ≡ q
 both_ways p q h k = go (slice_cmp nat_cmp p q) refl h
@@ -220,3 +217,148 @@ module _ (name : List ℕ → List ℕ) where
       pub with-none : (clash_with name held made ≡ None) ↔ ((n : List ℕ) → Clashes name held made n → ⊥)
       unfolding clash_with
       with-none = none-told (Clashes name held made) with_held with-to with-from
+
+-- ---- where nothing clashes
+
+-- texts that share no name, and texts that share none with those held
+module _ (held made : List (List ℕ)) (alone : clash_within sha256 made ≡ None) (apart : clash_with sha256 held made ≡ None) where
+  made_apart : (a b : List ℕ) → IsIn made a → IsIn made b → sha256 a ≡ sha256 b → a ≡ b
+  made_apart a b i j e =
+      ⊎_elim
+      (λ (same : a ≡ b). same)
+      (λ differ. absurd ((within-none sha256 made).0 alone (sha256 b) (record { one = a; other = b; first = contains_of_in made a i; second = contains_of_in made b j; different = differ; is_of_one = e; is_of_other = refl })))
+      (same_or_other a b)
+
+  held_apart : (a b : List ℕ) → IsIn made a → IsIn held b → sha256 a ≡ sha256 b → a ≡ b
+  held_apart a b i j e =
+      ⊎_elim
+      (λ (same : a ≡ b). same)
+      (λ differ. absurd ((with-none sha256 made held).0 apart (sha256 b) (shared_name (record { one = a; other = b; first = contains_of_in made a i; second = contains_of_in held b j; different = differ; is_of_one = e; is_of_other = refl }))))
+      (same_or_other a b)
+
+  made_nonzero : (a : List ℕ) → IsIn made a → sha256 a ≢ zero_digest
+  made_nonzero a i e = (with-none sha256 made held).0 apart (sha256 a) (zero_name a (contains_of_in made a i) refl e)
+
+  -- what is held and what is made do not clash then
+  pub clear-joined : NoClash held → (texts : List (List ℕ)) → ((t : List ℕ) → IsIn texts t → IsIn held t ⊎ IsIn made t) → NoClash texts
+  clear-joined clear texts from = record {
+    apart = λ a b here there e. two a b e (from a (in_of_contains texts a here)) (from b (in_of_contains texts b there));
+    nonzero = λ a here. one a (from a (in_of_contains texts a here));
+  }
+    where
+      two : (a b : List ℕ) → sha256 a ≡ sha256 b → IsIn held a ⊎ IsIn made a → IsIn held b ⊎ IsIn made b → a ≡ b
+      two a b e (inl i) (inl j) = clear.apart a b (contains_of_in held a i) (contains_of_in held b j) e
+      two a b e (inl i) (inr j) = sym (held_apart b a j i (sym e))
+      two a b e (inr i) (inl j) = held_apart a b i j e
+      two a b e (inr i) (inr j) = made_apart a b i j e
+
+      one : (a : List ℕ) → IsIn held a ⊎ IsIn made a → sha256 a ≢ zero_digest
+      one a (inl i) = clear.nonzero a (contains_of_in held a i)
+      one a (inr j) = made_nonzero a j
+
+-- ---- of live blocks
+
+pub clear-with_block : (forks : ForkState) (header : Header) (changes : Changes) (prev : State) → state_at forks header.prev ≡ Some prev → NoClash (live_texts forks) → made_clash prev changes ≡ None → live_clash forks prev changes ≡ None → NoClash (live_texts (with_block forks header changes))
+clear-with_block forks header changes prev at clear alone apart =
+    clear-joined (live_texts forks) (made_texts prev changes) alone apart clear (live_texts (with_block forks header changes)) from
+  where
+    new : (t : List ℕ) → IsIn (texts_of (after prev changes)) t → IsIn (live_texts forks) t ⊎ IsIn (made_texts prev changes) t
+    new t i =
+        ⊎_elim
+        (λ (here : Contains (texts_of prev) t). inl (in_of_contains (live_texts forks) t (live-of_state forks header.prev t prev at here)))
+        (λ (here : Contains (made_texts prev changes) t). inr (in_of_contains (made_texts prev changes) t here))
+        (new_texts prev changes t (contains_of_in (texts_of (after prev changes)) t i))
+
+    from : (t : List ℕ) → IsIn (live_texts (with_block forks header changes)) t → IsIn (live_texts forks) t ⊎ IsIn (made_texts prev changes) t
+    from t i =
+        let p = block-of_state forks header.prev prev at in
+        let live = live_in_from (record forks { blocks = forks.blocks ++ over_prev header changes p.0 ∷ [] }) t (subst (λ f. IsIn (live_texts f) t) (with_block-is forks header changes p.0 p.1) i) in
+        go p.0 p.2 live.0 live.2 (in-append_cases forks.blocks (over_prev header changes p.0 ∷ []) live.0 live.1)
+      where
+        go : (p : Block) → p.state ≡ prev → (b : Block) → IsIn (texts_of b.state) t → IsIn forks.blocks b ⊎ IsIn (over_prev header changes p ∷ []) b → IsIn (live_texts forks) t ⊎ IsIn (made_texts prev changes) t
+        go p same b here (inl i) = inl (live-in forks b t i here)
+        go p same b here (inr (inl e)) = new t (subst (λ (s : State). IsIn (texts_of (after s changes)) t) same (subst (λ (x : Block). IsIn (texts_of x.state) t) (sym e) here))
+        go p same b here (inr (inr none)) = absurd none
+
+pub clear-moved : (forks : ForkState) (id : List ℕ) → NoClash (live_texts forks) → NoClash (live_texts (head_moved forks id))
+unfolding head_moved
+clear-moved forks id clear =
+    NoClash-part (live_texts (head_moved forks id)) (live_texts forks) (λ t here.
+    let live = live_in_from (head_moved forks id) t (in_of_contains (live_texts (head_moved forks id)) t here) in
+    contains_of_in (live_texts forks) t (live-in forks live.0 t (in_filter_from (λ (block : Block). descends (tree_of_blocks forks) id block.header.id) forks.blocks live.0 live.1).0 live.2)) clear
+
+-- texts that are held already
+pub held-clear : (held made : List (List ℕ)) → ((t : List ℕ) → Contains made t → Contains held t) → NoClash held → (clash_within sha256 made ≡ None) × (clash_with sha256 held made ≡ None)
+held-clear held made part clear = (
+  (within-none sha256 made).1 (λ digest is. is.different (clear.apart is.one is.other (part is.one is.first) (part is.other is.second) (is.is_of_one ∙ sym is.is_of_other))),
+  (with-none sha256 made held).1 no_clash,
+)
+  where
+    no_clash : (digest : List ℕ) → Clashes sha256 held made digest → ⊥
+    no_clash digest (zero_name t here is zero) = clear.nonzero t (part t here) (is ∙ zero)
+    no_clash digest (shared_name is) = is.different (clear.apart is.one is.other (part is.one is.first) is.second (is.is_of_one ∙ sym is.is_of_other))
+
+-- a batch that changes nothing makes texts that its state has
+pub unchanged-clear : (forks : ForkState) (id : List ℕ) (prev : State) (changes : Changes) → state_at forks id ≡ Some prev → after prev changes ≡ prev → NoClash (live_texts forks) → (made_clash prev changes ≡ None) × (live_clash forks prev changes ≡ None)
+unchanged-clear forks id prev changes at same clear =
+    held-clear (live_texts forks) (made_texts prev changes) (λ t here. live-of_state forks id t prev at (made_before prev changes t same here)) clear
+
+-- ---- with a table
+
+-- A text meets another under its digest, or has the zero one, exactly where it clashes with the live texts.
+pub met-in_table : (table : Table) (forks : ForkState) (t : List ℕ) → IsForkState forks → HoldsCounted table forks → ((sha256 t ≡ zero_digest) ⊎ IsSomeAnd (get table (sha256 t)) (λ other. other ≢ t)) ↔ Clashes sha256 (live_texts forks) (t ∷ []) (sha256 t)
+met-in_table table forks t is holds = (to, back)
+  where
+    to : (sha256 t ≡ zero_digest) ⊎ IsSomeAnd (get table (sha256 t)) (λ other. other ≢ t) → Clashes sha256 (live_texts forks) (t ∷ []) (sha256 t)
+    to (inl zero) = zero_name t (contains_of_in (t ∷ []) t (inl refl)) refl zero
+    to (inr other) = go (get table (sha256 t)) refl other
+      where
+        go : (o : Option (List ℕ)) → get table (sha256 t) ≡ o → IsSomeAnd o (λ other. other ≢ t) → Clashes sha256 (live_texts forks) (t ∷ []) (sha256 t)
+        go None e h = absurd h
+        go (Some u) e h = shared_name (record {
+          one = t;
+          other = u;
+          first = contains_of_in (t ∷ []) t (inl refl);
+          second = (texts-counted forks is u).0 (holds.only (sha256 t) u e);
+          different = λ same. h (sym same);
+          is_of_one = refl;
+          is_of_other = holds.named (sha256 t) u e;
+        })
+
+    here : (u : List ℕ) → Contains (t ∷ []) u → u ≡ t
+    here u c = go (in_of_contains (t ∷ []) u c)
+      where
+        go : (t ≡ u) ⊎ ⊥ → u ≡ t
+        go (inl e) = sym e
+        go (inr none) = absurd none
+
+    back : Clashes sha256 (live_texts forks) (t ∷ []) (sha256 t) → (sha256 t ≡ zero_digest) ⊎ IsSomeAnd (get table (sha256 t)) (λ other. other ≢ t)
+    back (zero_name u c e zero) = inl zero
+    back (shared_name shared) =
+        let held : get table (sha256 t) ≡ Some shared.other = ap (get table) (sym shared.is_of_other) ∙ holds.found shared.other ((texts-counted forks is shared.other).1 shared.second) in
+        inr (subst (λ o. IsSomeAnd o (λ other. other ≢ t)) (sym held) (λ same. shared.different (here shared.one shared.first ∙ sym same)))
+
+-- what clashes of some texts does so of one of them
+pub clash-of_one : (name : List ℕ → List ℕ) (held made : List (List ℕ)) (digest : List ℕ) → Clashes name held made digest ↔ ((t : List ℕ) × Contains made t × Clashes name held (t ∷ []) digest)
+clash-of_one name held made digest = (to, back)
+  where
+    first : (t : List ℕ) → Contains (t ∷ []) t
+    first t = contains_of_in (t ∷ []) t (inl refl)
+
+    to : Clashes name held made digest → (t : List ℕ) × Contains made t × Clashes name held (t ∷ []) digest
+    to (zero_name t here is zero) = (t, here, zero_name t (first t) is zero)
+    to (shared_name is) = (is.one, is.first, shared_name (record { one = is.one; other = is.other; first = first is.one; second = is.second; different = is.different; is_of_one = is.is_of_one; is_of_other = is.is_of_other }))
+
+    only : (t u : List ℕ) → Contains (t ∷ []) u → t ≡ u
+    only t u c = go (in_of_contains (t ∷ []) u c)
+      where
+        go : (t ≡ u) ⊎ ⊥ → t ≡ u
+        go (inl e) = e
+        go (inr none) = absurd none
+
+    back_of : (t : List ℕ) → Contains made t → Clashes name held (t ∷ []) digest → Clashes name held made digest
+    back_of t here (zero_name u c is zero) = zero_name u (subst (Contains made) (only t u c) here) is zero
+    back_of t here (shared_name is) = shared_name (record { one = is.one; other = is.other; first = subst (Contains made) (only t is.one is.first) here; second = is.second; different = is.different; is_of_one = is.is_of_one; is_of_other = is.is_of_other })
+
+    back : (t : List ℕ) × Contains made t × Clashes name held (t ∷ []) digest → Clashes name held made digest
+    back one = back_of one.0 one.1 one.2

@@ -22,3 +22,5 @@ pub mod ByEntries
 pub mod Clashing
 -- how many texts a state has
 pub mod Bounded
+-- loads and visits
+pub mod Loaded

@@ -99,10 +99,10 @@ module _ (changes : List Change) where
 
 -- ---- loads
 
-abbrev no_changes : Changes
+abbrev pub no_changes : Changes
 no_changes = empty
 
-entries-no_changes : entries no_changes ≡ []
+pub entries-no_changes : entries no_changes ≡ []
 entries-no_changes = nil_from_length (entries no_changes) (sym (len-entries no_changes) ∙ len-empty (slice_cmp nat_cmp) (Option (List ℕ)))
 
 abbrev lookup_of : (key : List ℕ) → (pairs later : List Pair) → (changes : List Change) → ℕ

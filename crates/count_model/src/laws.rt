@@ -1,23 +1,30 @@
 //! Laws over the definitions, in other words than theirs. A law is proved where its function is: there is nothing to run.
 
-ghost use Rattle.std.specs.Prelude.{◌≡◌, ◌≢◌, ◌+◌, ◌-◌, ◌^◌, ◌≤◌, ◌↔◌, ◌⊎◌, ℕ, nat_lt, true, false, List, [], ◌∷◌, ◌++◌, length, map, flat_map, Contains, sum_by, None, Some};
+ghost use Rattle.std.specs.Prelude.{◌≡◌, ◌≢◌, ◌+◌, ◌-◌, ◌*◌, ◌^◌, ◌≤◌, ◌↔◌, ◌⊎◌, ℕ, nat_lt, true, false, List, [], ◌∷◌, ◌++◌, length, map, flat_map, Contains, sum_by, None, Some};
 ghost use Rattle.std.specs.List.{AllByRecursion};
+ghost use Rattle.std.specs.Option.{IsSomeAnd};
 ghost use Rattle.std.specs.FinMap.{contains_key, entries, get};
 ghost use Rattle.std.specs.List.Sorted.{IsStrictlySortedBy};
 ghost use Rattle.std.specs.Ordering.{nat_cmp};
 ghost use Rattle.std.specs.Cmp.Lexicographic.{slice_cmp};
 ghost use Rattle.std.specs.Str.{bytes_eq};
 ghost use Rattle.sha2.specs.Sha256.{sha256};
+ghost use Rattle.byte_model.specs.Nibbles.{AreBytes};
 ghost use Rattle.trie_model.specs.State.{State, IsState};
 ghost use Rattle.trie_model.specs.Root.{Holds, NoClash, Table, digest_occurrences, occurrences, root, texts_of, zero_digest};
+ghost use Rattle.visit_model.specs.Visits.{lookup_visits, top_visits};
 ghost use Rattle.batch_model.specs.Changes.{AreChanges, Changes, after};
 ghost use Rattle.change_model.specs.Ledger.{gain, loss, made_texts};
+ghost use Rattle.change_model.specs.Places.{touched_places};
+ghost use Rattle.change_model.specs.Tables.{HoldsPlaces};
+ghost use Rattle.change_model.specs.Visits.{batch_visits};
 ghost use Rattle.fork_model.specs.Trees.{Header, block_fault, dropped, is_live, passed};
 ghost use Rattle.fork_model.specs.States.{Block, ForkState, IsForkState, block_at, first_fork, head_moved, state_at, tree_of_blocks, with_block};
 ghost use Rattle.count_model.specs.Counts.{Measure, count, counted, digest_count, fall, in_state, of_digest, of_text, rise, taken_away};
 ghost use Rattle.count_model.specs.Clashes.{clash_with, clash_within, live_clash, made_clash};
 ghost use Rattle.count_model.specs.Laws.{Clashes, IsLeast, IsShared};
 ghost use Rattle.count_model.specs.Entries.{Entry, Exceeds, times_of};
+ghost use Rattle.count_model.specs.Loads.{batch_loads, lookup_loads, usage_loads};
 ghost use Rattle.count_model.specs.Tables.{AreStates, HoldsCounted, live_texts};
 
 // ---- counts, as blocks are accepted and the head moves
@@ -134,4 +141,38 @@ pub fn least_clashes_are_told()
     ensures none_within { (name : List ℕ → List ℕ) (made : List (List ℕ)) → (clash_within name made ≡ None) ↔ ((digest : List ℕ) → IsShared name made made digest → ⊥) }
     ensures with_held { (name : List ℕ → List ℕ) (held made : List (List ℕ)) (digest : List ℕ) → (clash_with name held made ≡ Some digest) ↔ IsLeast (Clashes name held made) digest }
     ensures none_with_held { (name : List ℕ → List ℕ) (held made : List (List ℕ)) → (clash_with name held made ≡ None) ↔ ((digest : List ℕ) → Clashes name held made digest → ⊥) }
+{}
+
+/// Where the live texts do not clash, and a block's texts neither with each other nor with them, the live texts with the block do not clash. A move takes texts away alone, and the texts of a batch that changes nothing are there already.
+pub fn where_nothing_clashes()
+    ensures block { (forks : ForkState) (header : Header) (changes : Changes) (prev : State) → state_at forks header.prev ≡ Some prev → NoClash (live_texts forks) → made_clash prev changes ≡ None → live_clash forks prev changes ≡ None → NoClash (live_texts (with_block forks header changes)) }
+    ensures moved { (forks : ForkState) (id : List ℕ) → NoClash (live_texts forks) → NoClash (live_texts (head_moved forks id)) }
+    ensures unchanged { (forks : ForkState) (id : List ℕ) (prev : State) (changes : Changes) → state_at forks id ≡ Some prev → after prev changes ≡ prev → NoClash (live_texts forks) → (made_clash prev changes ≡ None) × (live_clash forks prev changes ≡ None) }
+{}
+
+/// Texts clash with those of live blocks where one of them does. And in a table that has exactly the counted texts that one meets another text under its digest, or its digest is zero.
+pub fn clashes_are_met_in_a_table()
+    ensures one { (name : List ℕ → List ℕ) (held made : List (List ℕ)) (digest : List ℕ) → Clashes name held made digest ↔ ((t : List ℕ) × Contains made t × Clashes name held (t ∷ []) digest) }
+    ensures table { (table : Table) (forks : ForkState) (t : List ℕ) → IsForkState forks → HoldsCounted table forks → ((sha256 t ≡ zero_digest) ⊎ IsSomeAnd (get table (sha256 t)) (λ other. other ≢ t)) ↔ Clashes sha256 (live_texts forks) (t ∷ []) (sha256 t) }
+{}
+
+// ---- bounds
+
+/// A state has at most four texts for each pair: three places, and the value. So a count is at most four times the pairs of all live states, and of up to 4,096 live blocks it is far below the end of eight bytes.
+pub fn counts_are_bounded()
+    ensures state { (state : State) → IsState state → length (texts_of state) ≤ 4 * length (entries state) }
+    ensures texts { (most : ℕ) (forks : ForkState) (t : List ℕ) → IsForkState forks → AreStates forks → AllByRecursion (λ block. length (entries block.state) ≤ most) forks.blocks → count forks t ≤ length forks.blocks * (4 * most) }
+    ensures digests { (most : ℕ) (forks : ForkState) (digest : List ℕ) → IsForkState forks → AreStates forks → AllByRecursion (λ block. length (entries block.state) ≤ most) forks.blocks → digest_count forks digest ≤ length forks.blocks * (4 * most) }
+    ensures small_texts { (forks : ForkState) (t : List ℕ) → IsForkState forks → AreStates forks → length forks.blocks ≤ 4096 → count forks t ≤ 2 ^ 46 }
+    ensures small_digests { (forks : ForkState) (digest : List ℕ) → IsForkState forks → AreStates forks → length forks.blocks ≤ 4096 → digest_count forks digest ≤ 2 ^ 46 }
+{}
+
+// ---- loads
+
+/// Over a table that holds a state, what is loaded is what a reading or a batch visits there, one text for each visit. So the texts of the places that are touched are all there.
+pub fn loads_are_visits()
+    ensures lookup { (table : Table) (state : State) (key : List ℕ) → Holds table state → IsState state → AreBytes key → length (lookup_visits table (root state) key).digests ≡ lookup_loads state key }
+    ensures usage { (table : Table) (state : State) → Holds table state → IsState state → length (top_visits table (root state)).digests ≡ usage_loads state }
+    ensures batch { (table : Table) (state : State) (changes : Changes) → Holds table state → IsState state → AreChanges changes → length (batch_visits table (root state) changes).digests ≡ batch_loads state changes }
+    ensures places { (table : Table) (state : State) (reads : List (List ℕ)) (changes : Changes) → Holds table state → HoldsPlaces table state (touched_places state reads changes) }
 {}
