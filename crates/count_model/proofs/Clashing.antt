@@ -121,7 +121,7 @@ module _ (P : List ℕ → Type 0) (ns : List (List ℕ)) (to : (n : List ℕ) �
 
 -- ---- names that are shared
 
-any_from : {X : Type 0} (test : X → Bool) (xs : List X) → list_any test xs ≡ true → (x : X) × IsIn xs x × (test x ≡ true)
+pub any_from : {X : Type 0} (test : X → Bool) (xs : List X) → list_any test xs ≡ true → (x : X) × IsIn xs x × (test x ≡ true)
 any_from test [] e = cc
 any_from {X} test (y ∷ ys) e = go (test y) refl (any_from test ys) e
   where
@@ -129,7 +129,7 @@ any_from {X} test (y ∷ ys) e = go (test y) refl (any_from test ys) e
     go true t further e = (y, inl refl, t)
     go false t further e = let r = further e in (r.0, inr r.1, r.2)
 
-any_in : {X : Type 0} (test : X → Bool) (xs : List X) (x : X) → IsIn xs x → test x ≡ true → list_any test xs ≡ true
+pub any_in : {X : Type 0} (test : X → Bool) (xs : List X) (x : X) → IsIn xs x → test x ≡ true → list_any test xs ≡ true
 any_in test [] x i e = absurd i
 any_in test (y ∷ ys) x (inl same) e = ap (λ b. b || list_any test ys) (ap test same ∙ e)
 any_in test (y ∷ ys) x (inr i) e = ap (λ b. test y || b) (any_in test ys x i e) ∙ or_true (test y)

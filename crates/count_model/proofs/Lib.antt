@@ -24,3 +24,5 @@ pub mod Clashing
 pub mod Bounded
 -- loads and visits
 pub mod Loaded
+-- how many different texts there are
+pub mod Different

@@ -16,12 +16,12 @@ use Rattle.change_model.specs.Examples.{delete_b}
 use Rattle.change_model.proofs.Worked.{laid, paths_of, subtree_of, texts_in, touched_of, touched-told, worked}
 use Rattle.fork_model.proofs.Worked.{all_of_forks}
 use Rattle.count_model.specs.Counts.{rise, counted}
-use Rattle.count_model.specs.Tables.{live_texts}
+use Rattle.count_model.specs.Tables.{different, live_texts}
 use Rattle.count_model.specs.Loads.{batch_loads, lookup_loads, usage_loads}
 
 -- what a proof by computing opens
 unfoldable pub all_of_counts : ℕ
-unfolding all_of_forks rise counted live_texts
+unfolding all_of_forks rise counted live_texts different
 all_of_counts = 0
 
 -- ---- the states on a line
@@ -76,6 +76,13 @@ counts_passed start first second = map (λ t. in_texts second t + 0) (all_texts 
 
 abbrev pub counts_dropped : (start first second : List (List ℕ)) → List ℕ
 counts_dropped start first second = map (λ t. in_texts first t + 0) (first ++ [])
+
+-- how many different texts there are, on a line or two forks, and behind the move on the line
+abbrev pub distinct_along : (start first second : List (List ℕ)) → ℕ
+distinct_along start first second = different (all_texts start first second)
+
+abbrev pub distinct_passed : (start first second : List (List ℕ)) → ℕ
+distinct_passed start first second = different (second ++ [])
 
 module _ (changes : List Change) where
   abbrev first_state : State

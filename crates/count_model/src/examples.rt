@@ -7,7 +7,7 @@ ghost use Rattle.change_model.specs.Examples.{delete_b};
 ghost use Rattle.fork_model.specs.States.{after_head, first_fork};
 ghost use Rattle.fork_model.specs.Examples.{header_of, id_of, many};
 ghost use Rattle.count_model.specs.Counts.{count, digest_count};
-ghost use Rattle.count_model.specs.Tables.{live_texts};
+ghost use Rattle.count_model.specs.Tables.{distinct_texts, live_texts};
 ghost use Rattle.count_model.specs.Clashes.{clash_with, clash_within};
 ghost use Rattle.count_model.specs.Loads.{loads};
 ghost use Rattle.count_model.specs.Loads.Access.{carry_out, look_up, nothing, tell_usage};
@@ -17,12 +17,15 @@ ghost use Rattle.count_model.specs.Examples.{first_byte, one_line, set_alike, se
 pub fn one_of_two_deleted()
     ensures before { map (count (one_line set_two)) (live_texts (one_line set_two)) ≡ 1 ∷ 1 ∷ 1 ∷ 1 ∷ 1 ∷ 1 ∷ 1 ∷ 1 ∷ [] }
     ensures after { map (count (after_head (one_line set_two) (id_of 2))) (live_texts (one_line set_two)) ≡ 0 ∷ 0 ∷ 0 ∷ 0 ∷ 1 ∷ 0 ∷ 1 ∷ 1 ∷ [] }
+    ensures distinct { distinct_texts (one_line set_two) ≡ 7 }
+    ensures distinct_after { distinct_texts (after_head (one_line set_two) (id_of 2)) ≡ 2 }
 {}
 
 /// The same where both keys have one value, so that their leaves have one text: leaf and value are counted twice, and the value once behind the move.
 pub fn one_of_two_alike_deleted()
     ensures before { map (count (one_line set_alike)) (live_texts (one_line set_alike)) ≡ 1 ∷ 1 ∷ 2 ∷ 2 ∷ 2 ∷ 2 ∷ 1 ∷ 2 ∷ [] }
     ensures after { map (count (after_head (one_line set_alike) (id_of 2))) (live_texts (one_line set_alike)) ≡ 0 ∷ 0 ∷ 0 ∷ 0 ∷ 1 ∷ 1 ∷ 1 ∷ 1 ∷ [] }
+    ensures distinct { distinct_texts (one_line set_alike) ≡ 5 }
     ensures digests { map (λ t. digest_count (one_line set_alike) (sha256 t)) (live_texts (one_line set_alike)) ≡ 1 ∷ 1 ∷ 2 ∷ 2 ∷ 2 ∷ 2 ∷ 1 ∷ 2 ∷ [] }
 {}
 
@@ -30,6 +33,7 @@ pub fn one_of_two_alike_deleted()
 pub fn two_forks_alike()
     ensures before { map (count two_forks) (live_texts two_forks) ≡ 2 ∷ 2 ∷ 2 ∷ 2 ∷ 2 ∷ 2 ∷ 2 ∷ 2 ∷ 2 ∷ 2 ∷ 2 ∷ 2 ∷ [] }
     ensures after { map (count (after_head two_forks (id_of 1))) (live_texts (after_head two_forks (id_of 1))) ≡ 1 ∷ 1 ∷ 1 ∷ 1 ∷ 1 ∷ 1 ∷ [] }
+    ensures distinct { distinct_texts two_forks ≡ 6 }
 {}
 
 /// Over the empty state nothing is loaded, and to delete one of two keys loads the extension, the branch and both leaves. A key that is not there is found missing at the root's leaf, and one that is there takes its value too. Of a block that is refused, or not live, nothing is loaded.

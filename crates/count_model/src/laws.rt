@@ -3,7 +3,7 @@
 ghost use Rattle.std.specs.Prelude.{◌≡◌, ◌≢◌, ◌+◌, ◌-◌, ◌*◌, ◌^◌, ◌≤◌, ◌↔◌, ◌⊎◌, ℕ, nat_lt, true, false, List, [], ◌∷◌, ◌++◌, length, map, flat_map, Contains, sum_by, None, Some};
 ghost use Rattle.std.specs.List.{AllByRecursion};
 ghost use Rattle.std.specs.Option.{IsSomeAnd};
-ghost use Rattle.std.specs.FinMap.{contains_key, entries, get};
+ghost use Rattle.std.specs.FinMap.{contains_key, entries, get, len};
 ghost use Rattle.std.specs.List.Sorted.{IsStrictlySortedBy};
 ghost use Rattle.std.specs.Ordering.{nat_cmp};
 ghost use Rattle.std.specs.Cmp.Lexicographic.{slice_cmp};
@@ -25,7 +25,7 @@ ghost use Rattle.count_model.specs.Clashes.{clash_with, clash_within, live_clash
 ghost use Rattle.count_model.specs.Laws.{Clashes, IsLeast, IsShared};
 ghost use Rattle.count_model.specs.Entries.{Entry, Exceeds, times_of};
 ghost use Rattle.count_model.specs.Loads.{batch_loads, lookup_loads, usage_loads};
-ghost use Rattle.count_model.specs.Tables.{AreStates, HoldsCounted, live_texts};
+ghost use Rattle.count_model.specs.Tables.{AreStates, HoldsCounted, distinct_texts, live_texts};
 
 // ---- counts, as blocks are accepted and the head moves
 
@@ -65,11 +65,12 @@ pub fn texts_of_live_blocks_are_counted()
 
 // ---- tables
 
-/// A table that has exactly the counted texts holds the state of each live block, and has something under a digest exactly where the digest is counted. No two texts of live blocks clash then. And a table that holds each live state, and has nothing under a digest that is not counted, is one.
+/// A table that has exactly the counted texts holds the state of each live block, and has something under a digest exactly where the digest is counted. It has as many texts as the live blocks have different ones. No two texts of live blocks clash then. And a table that holds each live state, and has nothing under a digest that is not counted, is one.
 pub fn counted_texts_hold_live_states()
     ensures holds { (table : Table) (forks : ForkState) (id : List ℕ) (state : State) → IsForkState forks → HoldsCounted table forks → state_at forks id ≡ Some state → Holds table state }
     ensures no_clash { (table : Table) (forks : ForkState) → IsForkState forks → HoldsCounted table forks → NoClash (live_texts forks) }
     ensures digests { (table : Table) (forks : ForkState) (digest : List ℕ) → IsForkState forks → HoldsCounted table forks → contains_key table digest ≡ nat_lt 0 (digest_count forks digest) }
+    ensures distinct { (table : Table) (forks : ForkState) → IsForkState forks → HoldsCounted table forks → len table ≡ distinct_texts forks }
     ensures exactly { (table : Table) (forks : ForkState) → IsForkState forks → AllByRecursion (λ block. Holds table block.state) forks.blocks → ((digest t : List ℕ) → get table digest ≡ Some t → 1 ≤ digest_count forks digest) → HoldsCounted table forks }
 {}
 

@@ -1,3 +1,4 @@
+use Rattle.count_model.proofs.Different.{distinct-held}
 use Rattle.count_model.proofs.Held.{clear-live, holds-counted, holds-live, keys-counted}
 use Rattle.count_model.proofs.laws.counted_texts_hold_live_states.Goals as goal
 
@@ -12,3 +13,6 @@ returns-clause-digests c = λ table forks digest is holds. keys-counted table fo
 
 pub returns-clause-exactly : goal.returns-clause-exactly
 returns-clause-exactly c = holds-counted
+
+pub returns-clause-distinct : goal.returns-clause-distinct
+returns-clause-distinct c = distinct-held
