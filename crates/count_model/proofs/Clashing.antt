@@ -1,6 +1,7 @@
 -- Which texts clash, and that none do where nothing is told.
 use Rattle.std.proofs.Common.{◌≡◌, ◌≢◌, ◌↔◌, ℕ, nat_eq, Bool, true, false, cond, not, ◌&&◌, ◌||◌, List, [], ◌∷◌, ◌++◌, map, Option, None, Some, MatchOption, IsTrue, Contains, ◌⊎◌, inl, inr, ⊎_elim, refl, sym, ◌∙◌, ap, ap₂, subst}
 use Rattle.std.specs.List.{filter, list_any}
+use Rattle.std.specs.List.Sorted.{IsStrictlySortedBy}
 use Rattle.std.specs.Option.{IsSomeAnd}
 use Rattle.std.specs.FinMap.{get}
 use Rattle.std.specs.declared.cmp.Ordering.{Ordering}
@@ -10,8 +11,8 @@ use Rattle.std.specs.Cmp.Lexicographic.{slice_cmp, pointwise, nat_list_cmp_total
 use Rattle.sha2.specs.Sha256.{sha256}
 use Rattle.trie_model.specs.State.{State}
 use Rattle.trie_model.specs.Root.{NoClash, Table, texts_of, zero_digest}
-use Rattle.trie_model.proofs.Members.{IsIn, contains_of_in, in_of_contains, in-append_cases, in-map, in_map_from}
-use Rattle.trie_model.proofs.Growth.{NotAfter, not_after_itself}
+use Rattle.trie_model.proofs.Members.{IsIn, all_at, contains_of_in, in_of_contains, in-append_cases, in-map, in_map_from}
+use Rattle.trie_model.proofs.Growth.{NotAfter, not_after_before, not_after_itself, slice_cmp-itself}
 use Rattle.batch_model.specs.Changes.{Changes, after}
 use Rattle.batch_model.proofs.Laying.{same_key}
 use Rattle.change_model.specs.Ledger.{made_texts}
@@ -305,6 +306,14 @@ unchanged-clear forks id prev changes at same clear =
 
 -- ---- with a table
 
+-- the one element of a list
+only_one : (t u : List ℕ) → Contains (t ∷ []) u → t ≡ u
+only_one t u c = go (in_of_contains (t ∷ []) u c)
+  where
+    go : (t ≡ u) ⊎ ⊥ → t ≡ u
+    go (inl e) = e
+    go (inr none) = absurd none
+
 -- A text meets another under its digest, or has the zero one, exactly where it clashes with the live texts.
 pub met-in_table : (table : Table) (forks : ForkState) (t : List ℕ) → IsForkState forks → HoldsCounted table forks → ((sha256 t ≡ zero_digest) ⊎ IsSomeAnd (get table (sha256 t)) (λ other. other ≢ t)) ↔ Clashes sha256 (live_texts forks) (t ∷ []) (sha256 t)
 met-in_table table forks t is holds = (to, back)
@@ -325,18 +334,11 @@ met-in_table table forks t is holds = (to, back)
           is_of_other = holds.named (sha256 t) u e;
         })
 
-    here : (u : List ℕ) → Contains (t ∷ []) u → u ≡ t
-    here u c = go (in_of_contains (t ∷ []) u c)
-      where
-        go : (t ≡ u) ⊎ ⊥ → u ≡ t
-        go (inl e) = sym e
-        go (inr none) = absurd none
-
     back : Clashes sha256 (live_texts forks) (t ∷ []) (sha256 t) → (sha256 t ≡ zero_digest) ⊎ IsSomeAnd (get table (sha256 t)) (λ other. other ≢ t)
     back (zero_name u c e zero) = inl zero
     back (shared_name shared) =
         let held : get table (sha256 t) ≡ Some shared.other = ap (get table) (sym shared.is_of_other) ∙ holds.found shared.other ((texts-counted forks is shared.other).1 shared.second) in
-        inr (subst (λ o. IsSomeAnd o (λ other. other ≢ t)) (sym held) (λ same. shared.different (here shared.one shared.first ∙ sym same)))
+        inr (subst (λ o. IsSomeAnd o (λ other. other ≢ t)) (sym held) (λ same. shared.different (sym (only_one t shared.one shared.first) ∙ sym same)))
 
 -- what clashes of some texts does so of one of them
 pub clash-of_one : (name : List ℕ → List ℕ) (held made : List (List ℕ)) (digest : List ℕ) → Clashes name held made digest ↔ ((t : List ℕ) × Contains made t × Clashes name held (t ∷ []) digest)
@@ -349,16 +351,71 @@ clash-of_one name held made digest = (to, back)
     to (zero_name t here is zero) = (t, here, zero_name t (first t) is zero)
     to (shared_name is) = (is.one, is.first, shared_name (record { one = is.one; other = is.other; first = first is.one; second = is.second; different = is.different; is_of_one = is.is_of_one; is_of_other = is.is_of_other }))
 
-    only : (t u : List ℕ) → Contains (t ∷ []) u → t ≡ u
-    only t u c = go (in_of_contains (t ∷ []) u c)
-      where
-        go : (t ≡ u) ⊎ ⊥ → t ≡ u
-        go (inl e) = e
-        go (inr none) = absurd none
-
     back_of : (t : List ℕ) → Contains made t → Clashes name held (t ∷ []) digest → Clashes name held made digest
-    back_of t here (zero_name u c is zero) = zero_name u (subst (Contains made) (only t u c) here) is zero
-    back_of t here (shared_name is) = shared_name (record { one = is.one; other = is.other; first = subst (Contains made) (only t is.one is.first) here; second = is.second; different = is.different; is_of_one = is.is_of_one; is_of_other = is.is_of_other })
+    back_of t here (zero_name u c is zero) = zero_name u (subst (Contains made) (only_one t u c) here) is zero
+    back_of t here (shared_name is) = shared_name (record { one = is.one; other = is.other; first = subst (Contains made) (only_one t is.one is.first) here; second = is.second; different = is.different; is_of_one = is.is_of_one; is_of_other = is.is_of_other })
 
     back : (t : List ℕ) × Contains made t × Clashes name held (t ∷ []) digest → Clashes name held made digest
     back one = back_of one.0 one.1 one.2
+
+-- ---- texts in the order of their digests
+
+-- what stands behind a text in rising order is above it
+rising_behind : (name : List ℕ → List ℕ) (done : List (List ℕ)) (t : List ℕ) (left : List (List ℕ)) → IsStrictlySortedBy (slice_cmp nat_cmp) (map name (done ++ t ∷ left)) → (u : List ℕ) → IsIn left u → slice_cmp nat_cmp (name t) (name u) ≡ Less
+unfolding IsStrictlySortedBy
+rising_behind name [] t left rising u i = all_at (λ n. slice_cmp nat_cmp (name t) n ≡ Less) (map name left) (name u) rising.0 (in-map name left u i)
+rising_behind name (d ∷ done) t left rising u i = rising_behind name done t left rising.1 u i
+
+different_orders : Less ≡ Equal → ⊥
+different_orders e = cc
+
+-- texts whose names rise share none
+rising_apart : (name : List ℕ → List ℕ) (texts : List (List ℕ)) → IsStrictlySortedBy (slice_cmp nat_cmp) (map name texts) → (a b : List ℕ) → IsIn texts a → IsIn texts b → name a ≡ name b → a ≡ b
+unfolding IsStrictlySortedBy
+rising_apart name [] rising a b i j e = absurd i
+rising_apart name (t ∷ texts) rising a b i j e = go i j (rising_apart name texts rising.1 a b)
+  where
+    above : (u : List ℕ) → IsIn texts u → name t ≡ name u → ⊥
+    above u k same = different_orders (sym (all_at (λ n. slice_cmp nat_cmp (name t) n ≡ Less) (map name texts) (name u) rising.0 (in-map name texts u k)) ∙ ap (slice_cmp nat_cmp (name t)) (sym same) ∙ slice_cmp-itself (name t))
+
+    go : (t ≡ a) ⊎ IsIn texts a → (t ≡ b) ⊎ IsIn texts b → (IsIn texts a → IsIn texts b → name a ≡ name b → a ≡ b) → a ≡ b
+    go (inl p) (inl q) further = sym p ∙ q
+    go (inl p) (inr k) further = absurd (above b k (ap name p ∙ e))
+    go (inr k) (inl q) further = absurd (above a k (ap name q ∙ sym e))
+    go (inr k) (inr l) further = further k l e
+
+pub rising-within : (name : List ℕ → List ℕ) (made texts : List (List ℕ)) → IsStrictlySortedBy (slice_cmp nat_cmp) (map name texts) → ((t : List ℕ) → Contains made t → Contains texts t) → clash_within name made ≡ None
+rising-within name made texts rising all =
+    (within-none name made).1 (λ digest is. is.different (rising_apart name texts rising is.one is.other (in_of_contains texts is.one (all is.one is.first)) (in_of_contains texts is.other (all is.other is.second)) (is.is_of_one ∙ sym is.is_of_other)))
+
+-- the name by which one text clashes is its own
+own_name : (name : List ℕ → List ℕ) (held : List (List ℕ)) (t digest : List ℕ) → Clashes name held (t ∷ []) digest → name t ≡ digest
+own_name name held t digest (zero_name u here is zero) = ap name (only_one t u here) ∙ is
+own_name name held t digest (shared_name is) = ap name (only_one t is.one is.first) ∙ is.is_of_one
+
+pub rising-none : (name : List ℕ → List ℕ) (held made texts : List (List ℕ)) → ((t : List ℕ) → Contains made t → Contains texts t) → ((t : List ℕ) → Contains texts t → Clashes name held (t ∷ []) (name t) → ⊥) → clash_with name held made ≡ None
+rising-none name held made texts all none =
+    (with-none name made held).1 (λ digest clashes.
+    let one = (clash-of_one name held made digest).0 clashes in
+    none one.0 (all one.0 one.1) (subst (Clashes name held (one.0 ∷ [])) (sym (own_name name held one.0 digest one.2)) one.2))
+
+pub rising-first : (name : List ℕ → List ℕ) (held made done left : List (List ℕ)) (t : List ℕ) → IsStrictlySortedBy (slice_cmp nat_cmp) (map name (done ++ t ∷ left)) → ((u : List ℕ) → Contains made u → Contains (done ++ t ∷ left) u) → Contains made t → ((u : List ℕ) → Contains done u → Clashes name held (u ∷ []) (name u) → ⊥) → Clashes name held (t ∷ []) (name t) → clash_with name held made ≡ Some (name t)
+rising-first name held made done left t rising all here none clashes =
+    (with-told name made held (name t)).1 (record { has = (clash-of_one name held made (name t)).1 (t, here, clashes); least = least })
+  where
+    least : (other : List ℕ) → Clashes name held made other → IsTrue (is_le (slice_cmp nat_cmp (name t) other))
+    least other c = go (in-append_cases done (t ∷ left) one.0 (in_of_contains (done ++ t ∷ left) one.0 (all one.0 one.1)))
+      where
+        one : (u : List ℕ) × Contains made u × Clashes name held (u ∷ []) other
+        one = (clash-of_one name held made other).0 c
+
+        own : name one.0 ≡ other
+        own = own_name name held one.0 other one.2
+
+        le : NotAfter (name t) other → IsTrue (is_le (slice_cmp nat_cmp (name t) other))
+        le h = le_from (slice_cmp nat_cmp (name t) other) h
+
+        go : IsIn done one.0 ⊎ ((t ≡ one.0) ⊎ IsIn left one.0) → IsTrue (is_le (slice_cmp nat_cmp (name t) other))
+        go (inl i) = absurd (none one.0 (contains_of_in done one.0 i) (subst (Clashes name held (one.0 ∷ [])) (sym own) one.2))
+        go (inr (inl same)) = le (subst (NotAfter (name t)) (ap name same ∙ own) (not_after_itself (name t)))
+        go (inr (inr i)) = le (subst (NotAfter (name t)) own (not_after_before (name t) (name one.0) (rising_behind name done t left rising one.0 i)))

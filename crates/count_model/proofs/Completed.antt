@@ -1,5 +1,5 @@
 -- The texts of the state after a batch are texts of the state before it or made by the batch.
-use Rattle.std.proofs.Common.{◌≡◌, ◌≢◌, ℕ, zero, suc, ◌+◌, ◌-◌, ◌≤◌, nat_eq, Bool, List, ◌++◌, map, Some, Contains, ◌⊎◌, inl, inr, refl, sym, ◌∙◌, subst, arith}
+use Rattle.std.proofs.Common.{◌≡◌, ◌≢◌, ℕ, zero, suc, ◌+◌, ◌-◌, ◌≤◌, nat_eq, Bool, List, ◌++◌, map, None, Some, Contains, ◌⊎◌, inl, inr, refl, sym, ◌∙◌, ap, subst, arith}
 use Rattle.std.specs.List.{count_by}
 use Rattle.std.specs.Cmp.Lexicographic.{pointwise}
 use Rattle.std.specs.FinMap.{entries, get}
@@ -16,8 +16,10 @@ use Rattle.change_model.specs.Ledger.{gain, made_texts, set_values}
 use Rattle.change_model.specs.Exchange.{taken_texts}
 use Rattle.change_model.proofs.Balance.{exchange, set_values-after}
 use Rattle.change_model.proofs.Filtered.{in_filter_from, in_filter_map_from}
-use Rattle.fork_model.proofs.Ids.{same-itself, same_from}
-use Rattle.count_model.proofs.Live.{count-member, count-some, text-occurs, text_occurs_from}
+use Rattle.fork_model.specs.States.{ForkState, IsForkState, state_at}
+use Rattle.fork_model.proofs.Ids.{found_not_none, same-itself, same_from}
+use Rattle.count_model.specs.Tables.{HoldsCounted}
+use Rattle.count_model.proofs.Live.{count-some, digest-occurs, digest_occurs_from, live-of_state, text-occurs, text_occurs_from, texts-counted}
 
 module _ (state : State) (changes : Changes) where
   new_in : (t : List ℕ) → IsIn (texts_of (after state changes)) t → IsIn (texts_of state) t ⊎ IsIn (made_texts state changes) t
@@ -89,3 +91,27 @@ gained_made state changes digest some =
   where
     made_some : (new taken old made : ℕ) → new + taken ≡ old + made → 1 ≤ new - old → 1 ≤ made
     made_some new taken old made e some = omega (arith, e, some)
+
+-- a made text that a table of the counted texts does not have gains
+pub unheld-gains : (table : Table) (forks : ForkState) (id : List ℕ) (state : State) (changes : Changes) (t : List ℕ) → IsForkState forks → HoldsCounted table forks → state_at forks id ≡ Some state → Contains (made_texts state changes) t → get table (sha256 t) ≡ None → 1 ≤ gain state changes (sha256 t)
+unheld-gains table forks id state changes t is holds at made none = go (digest_occurrences state (sha256 t)) refl
+  where
+    there : 1 ≤ digest_occurrences (after state changes) (sha256 t)
+    there = digest-occurs (after state changes) t (made_in state changes t (in_of_contains (made_texts state changes) t made))
+
+    grows : (old new : ℕ) → old ≡ 0 → 1 ≤ new → 1 ≤ new - old
+    grows old new e some = omega (arith, e, some)
+
+    go : (n : ℕ) → digest_occurrences state (sha256 t) ≡ n → 1 ≤ gain state changes (sha256 t)
+    go zero e = grows (digest_occurrences state (sha256 t)) (digest_occurrences (after state changes) (sha256 t)) e there
+    go (suc n) e =
+        let u = digest_occurs_from state (sha256 t) (omega (arith, e)) in
+        let held = holds.found u.0 ((texts-counted forks is u.0).1 (live-of_state forks id u.0 state at (contains_of_in (texts_of state) u.0 u.1))) in
+        absurd (found_not_none (sym (ap (get table) u.2) ∙ held) none)
+
+-- a table that has the texts of a state as another does
+pub holds-later : (table later : Table) (state : State) → Holds table state → ((t : List ℕ) → Contains (texts_of state) t → get later (sha256 t) ≡ get table (sha256 t)) → Holds later state
+holds-later table later state holds same = record {
+  found = all_of _ (texts_of state) (λ t i. same t (contains_of_in (texts_of state) t i) ∙ all_at _ (texts_of state) t holds.found i);
+  nonzero = holds.nonzero;
+}

@@ -107,6 +107,17 @@ module _ (measure : Measure) where
     pub one-balanced : former + rise measure forks q ≡ here + fall measure forks q
     one-balanced = let r = rise-behind in let f = fall-behind in let e = balanced former here in omega (arith, r, f, e)
 
+  -- what a block has more or less than its prev stays
+  pub record SidesStay (next forks : ForkState) (q : List ℕ) : Type 0 where
+    pub rises : rise measure next q ≡ rise measure forks q
+    pub falls : fall measure next q ≡ fall measure forks q
+
+  sides_stay : (next forks : ForkState) (q : List ℕ) (b : Header) → block_of (tree_of_blocks next).blocks q ≡ Some b → q ≢ next.head → block_of (tree_of_blocks forks).blocks q ≡ Some b → q ≢ forks.head → state_at next q ≡ state_at forks q → state_at next b.prev ≡ state_at forks b.prev → SidesStay next forks q
+  sides_stay next forks q b at_next other_next at other here former = record {
+    rises = rise-behind next q b at_next other_next ∙ ap₂ (λ (x y : Option State). in_state measure x - in_state measure y) here former ∙ sym (rise-behind forks q b at other);
+    falls = fall-behind next q b at_next other_next ∙ ap₂ (λ (x y : Option State). in_state measure x - in_state measure y) former here ∙ sym (fall-behind forks q b at other);
+  }
+
   -- ---- all live blocks
 
   module _ (forks : ForkState) (is : IsForkState forks) where
@@ -155,21 +166,21 @@ module _ (measure : Measure) where
       abbrev next : ForkState
       next = head_moved forks id
 
-      state-kept : (q : List ℕ) → descends tree id q ≡ true → state_at next q ≡ state_at forks q
+      pub state-kept : (q : List ℕ) → descends tree id q ≡ true → state_at next q ≡ state_at forks q
       state-kept q down = ap (option_map (λ block. block.state)) (states-kept forks id q ∙ ap (λ t. cond t (block_at forks.blocks q) None) down)
 
       -- what stays behind the new head rises as before
-      rise-kept : (q : List ℕ) → IsIn (ids_behind (moved tree id)) q → rise measure next q ≡ rise measure forks q
+      pub sides-kept : (q : List ℕ) → IsBehind (moved tree id) q → SidesStay next forks q
       unfolding moved head_moved
-      rise-kept q i =
-          let behind = behind_of_in (moved tree id) q i in
+      sides-kept q behind =
           let was = was-live tree is.tree id q behind.block behind.is in
           let other = behind_head tree is.tree id q was.0 behind.other in
           let both : (descends tree id behind.block.prev || bytes_eq id q) ≡ true = sym (descends-over tree is.tree id q behind.block was.1 other) ∙ was.0 in
           let up : descends tree id behind.block.prev ≡ true = sym (or_false _) ∙ ap (λ t. descends tree id behind.block.prev || t) (sym (apart_is id q (λ s. behind.other (sym s)))) ∙ both in
-          rise-behind next q behind.block (subst (λ t. block_of t.blocks q ≡ Some behind.block) (sym (tree-moved forks id)) behind.is) behind.other
-          ∙ ap₂ (λ (a b : Option State). in_state measure a - in_state measure b) (state-kept q was.0) (state-kept behind.block.prev up)
-          ∙ sym (rise-behind forks q behind.block was.1 other)
+          sides_stay next forks q behind.block (subst (λ t. block_of t.blocks q ≡ Some behind.block) (sym (tree-moved forks id)) behind.is) behind.other was.1 other (state-kept q was.0) (state-kept behind.block.prev up)
+
+      rise-kept : (q : List ℕ) → IsIn (ids_behind (moved tree id)) q → rise measure next q ≡ rise measure forks q
+      rise-kept q i = (sides-kept q (behind_of_in (moved tree id) q i)).rises
 
       move-sums : (head here rises falls drops stay : ℕ) → head + rises ≡ here + falls → (here + stay) + (falls + drops) ≡ head + (rises + (drops + stay))
       move-sums head here rises falls drops stay line = omega (arith, line)
@@ -228,13 +239,13 @@ module _ (measure : Measure) where
           let b = live-block q h at in
           block_of-at grown_forks.blocks q ∙ ap (option_map (λ block. block.header)) (block-kept q b.0 b.1) ∙ ap Some b.2
 
-      rise-grown : (q : List ℕ) → IsIn (ids_behind tree) q → rise measure grown_forks q ≡ rise measure forks q
-      rise-grown q i =
-          let behind = behind_of_in tree q i in
+      pub sides-grown : (q : List ℕ) → IsBehind tree q → SidesStay grown_forks forks q
+      sides-grown q behind =
           let over = (stands_in tree is.tree q behind.block behind.is behind.other).over in
-          rise-behind grown_forks q behind.block (header-grown q behind.block behind.is) behind.other
-          ∙ ap₂ (λ (a b : Option State). in_state measure a - in_state measure b) (state-grown q behind.block behind.is) (state-grown behind.block.prev over.prev over.is)
-          ∙ sym (rise-behind forks q behind.block behind.is behind.other)
+          sides_stay grown_forks forks q behind.block (header-grown q behind.block behind.is) behind.other behind.is behind.other (state-grown q behind.block behind.is) (state-grown behind.block.prev over.prev over.is)
+
+      rise-grown : (q : List ℕ) → IsIn (ids_behind tree) q → rise measure grown_forks q ≡ rise measure forks q
+      rise-grown q i = (sides-grown q (behind_of_in tree q i)).rises
 
       new-apart : header.id ≢ forks.head
       new-apart same = let head = head-live tree is.tree in found_not_none head.1 (ap (block_of tree.blocks) (sym same) ∙ taken.new)
@@ -250,10 +261,20 @@ module _ (measure : Measure) where
       unfolding block_at
       new-block = found-push_new block_key forks.blocks (over_prev header changes prev) header.id none-at ∙ ap (λ t. cond t (Some (over_prev header changes prev)) None) (same-itself header.id)
 
-      rise-new : rise measure grown_forks header.id ≡ measure (after prev.state changes) - measure prev.state
-      rise-new =
-          rise-behind grown_forks header.id header (block_of-at grown_forks.blocks header.id ∙ ap (option_map (λ block. block.header)) new-block) new-apart
-          ∙ ap₂ (λ (a b : Option State). in_state measure a - in_state measure b) (ap (option_map (λ block. block.state)) new-block) (ap (option_map (λ block. block.state)) (block-kept header.prev prev at_prev))
+      new-header : block_of grown_tree.blocks header.id ≡ Some header
+      new-header = block_of-at grown_forks.blocks header.id ∙ ap (option_map (λ block. block.header)) new-block
+
+      new-state : state_at grown_forks header.id ≡ Some (after prev.state changes)
+      new-state = ap (option_map (λ block. block.state)) new-block
+
+      prev-state : state_at grown_forks header.prev ≡ Some prev.state
+      prev-state = ap (option_map (λ block. block.state)) (block-kept header.prev prev at_prev)
+
+      pub rise-new : rise measure grown_forks header.id ≡ measure (after prev.state changes) - measure prev.state
+      rise-new = rise-behind grown_forks header.id header new-header new-apart ∙ ap₂ (λ (a b : Option State). in_state measure a - in_state measure b) new-state prev-state
+
+      pub fall-new : fall measure grown_forks header.id ≡ measure prev.state - measure (after prev.state changes)
+      fall-new = fall-behind grown_forks header.id header new-header new-apart ∙ ap₂ (λ (a b : Option State). in_state measure a - in_state measure b) prev-state new-state
 
       behind-grown : ids_behind grown_tree ≡ ids_behind tree ++ header.id ∷ []
       behind-grown =

@@ -7,17 +7,17 @@ use Rattle.trie_model.specs.State.{State}
 use Rattle.trie_model.specs.Root.{texts_of}
 use Rattle.trie_model.proofs.Worked.{texts_of-empty}
 use Rattle.batch_model.specs.Changes.{Changes, after}
-use Rattle.fork_model.specs.Trees.{Header, block_fault, is_live}
+use Rattle.fork_model.specs.Trees.{BlockTree, Header, block_fault, is_live, moved}
 use Rattle.fork_model.specs.States.{Block, ForkState, IsForkState, block_at, first_fork, head_moved, state_at, tree_of_blocks, with_block}
 use Rattle.fork_model.proofs.Ids.{apart_from}
 use Rattle.fork_model.proofs.Lines.{prev_from}
-use Rattle.fork_model.proofs.Faults.{accepted}
-use Rattle.fork_model.proofs.States.{block_of-at}
+use Rattle.fork_model.proofs.Faults.{IsAccepted, accepted}
+use Rattle.fork_model.proofs.States.{block_of-at, tree-moved, with_block-is}
 use Rattle.fork_model.proofs.Told.{found_live}
 use Rattle.fork_model.proofs.Worked.{all_of_forks}
 use Rattle.count_model.specs.Counts.{Measure, counted, fall, in_state, rise, taken_away}
 use Rattle.count_model.specs.Tables.{live_texts}
-use Rattle.count_model.proofs.Counted.{counted-moved, counted-with_block, fall-behind, rise-behind}
+use Rattle.count_model.proofs.Counted.{IsBehind, SidesStay, counted-moved, counted-with_block, fall-behind, fall-new, rise-behind, rise-new, sides-grown, sides-kept}
 use Rattle.count_model.proofs.Live.{block-of_state}
 
 -- at the start there is the empty state alone
@@ -63,3 +63,34 @@ module _ (measure : Measure) (forks : ForkState) (id : List ℕ) (block : Block)
 
   pub fall-told : fall measure forks id ≡ measure prev - measure (after prev block.changes)
   fall-told = fall-behind measure forks id block.header (block_of-at forks.blocks id ∙ ap (option_map (λ (b : Block). b.header)) at) (apart_from id forks.head other) ∙ states-told (λ here former. former - here)
+
+-- ---- blocks that stay
+
+-- a live block other than the head
+behind_from : (tree : BlockTree) (q : List ℕ) → is_live tree q ≡ true → bytes_eq q tree.head ≡ false → IsBehind tree q
+behind_from tree q live other = let b = found_live _ live in record { block = b.0; is = b.1; other = apart_from q tree.head other }
+
+module _ (measure : Measure) (most : ℕ) (forks : ForkState) (header : Header) (changes : Changes) (prev : State) (is : IsForkState forks) (fault : block_fault most (tree_of_blocks forks) header ≡ None) (at : state_at forks header.prev ≡ Some prev) where
+  taken : IsAccepted most (tree_of_blocks forks) header
+  taken = accepted most (tree_of_blocks forks) header fault
+
+  pub sides-block : (q : List ℕ) → is_live (tree_of_blocks forks) q ≡ true → bytes_eq q forks.head ≡ false → (rise measure (with_block forks header changes) q ≡ rise measure forks q) × (fall measure (with_block forks header changes) q ≡ fall measure forks q)
+  sides-block q live other =
+      let block = block-of_state forks header.prev prev at in
+      let sides = sides-grown measure forks is most header changes block.0 taken block.1 q (behind_from (tree_of_blocks forks) q live other) in
+      subst (λ (next : ForkState). (rise measure next q ≡ rise measure forks q) × (fall measure next q ≡ fall measure forks q)) (sym (with_block-is forks header changes block.0 block.1)) (sides.rises, sides.falls)
+
+  pub sides-new : (rise measure (with_block forks header changes) header.id ≡ measure (after prev changes) - measure prev) × (fall measure (with_block forks header changes) header.id ≡ measure prev - measure (after prev changes))
+  sides-new =
+      let block = block-of_state forks header.prev prev at in
+      subst (λ (next : ForkState). (rise measure next header.id ≡ measure (after prev changes) - measure prev) × (fall measure next header.id ≡ measure prev - measure (after prev changes))) (sym (with_block-is forks header changes block.0 block.1)) (
+        rise-new measure forks is most header changes block.0 taken block.1 ∙ ap (λ (s : State). measure (after s changes) - measure s) block.2,
+        fall-new measure forks is most header changes block.0 taken block.1 ∙ ap (λ (s : State). measure s - measure (after s changes)) block.2,
+      )
+
+pub sides-move : (measure : Measure) (forks : ForkState) (id q : List ℕ) → IsForkState forks → is_live (tree_of_blocks forks) id ≡ true → is_live (tree_of_blocks (head_moved forks id)) q ≡ true → bytes_eq q id ≡ false → (rise measure (head_moved forks id) q ≡ rise measure forks q) × (fall measure (head_moved forks id) q ≡ fall measure forks q)
+unfolding moved
+sides-move measure forks id q is live stays other =
+    let b = found_live _ live in
+    let sides = sides-kept measure forks is id b.0 b.1 q (behind_from (moved (tree_of_blocks forks) id) q (subst (λ t. is_live t q ≡ true) (tree-moved forks id) stays) other) in
+    (sides.rises, sides.falls)

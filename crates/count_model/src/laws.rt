@@ -55,6 +55,13 @@ pub fn rises_and_falls_are_gains_and_losses()
     ensures head { (measure : Measure) (forks : ForkState) → (rise measure forks forks.head ≡ in_state measure (state_at forks forks.head)) × (fall measure forks forks.head ≡ 0) }
 {}
 
+/// What a live block has more or less than its prev stays as it is, while other blocks are accepted and the head moves to another block.
+pub fn rises_and_falls_stay()
+    ensures block { (measure : Measure) (most : ℕ) (forks : ForkState) (header : Header) (changes : Changes) (prev : State) → IsForkState forks → block_fault most (tree_of_blocks forks) header ≡ None → state_at forks header.prev ≡ Some prev → (id : List ℕ) → is_live (tree_of_blocks forks) id ≡ true → bytes_eq id forks.head ≡ false → (rise measure (with_block forks header changes) id ≡ rise measure forks id) × (fall measure (with_block forks header changes) id ≡ fall measure forks id) }
+    ensures new { (measure : Measure) (most : ℕ) (forks : ForkState) (header : Header) (changes : Changes) (prev : State) → IsForkState forks → block_fault most (tree_of_blocks forks) header ≡ None → state_at forks header.prev ≡ Some prev → (rise measure (with_block forks header changes) header.id ≡ measure (after prev changes) - measure prev) × (fall measure (with_block forks header changes) header.id ≡ measure prev - measure (after prev changes)) }
+    ensures moved { (measure : Measure) (forks : ForkState) (head id : List ℕ) → IsForkState forks → is_live (tree_of_blocks forks) head ≡ true → is_live (tree_of_blocks (head_moved forks head)) id ≡ true → bytes_eq id head ≡ false → (rise measure (head_moved forks head) id ≡ rise measure forks id) × (fall measure (head_moved forks head) id ≡ fall measure forks id) }
+{}
+
 /// What is counted are the texts of live blocks, and no state has more of a text or a digest than is counted.
 pub fn texts_of_live_blocks_are_counted()
     ensures texts { (forks : ForkState) (t : List ℕ) → IsForkState forks → (1 ≤ count forks t) ↔ Contains (live_texts forks) t }
@@ -79,12 +86,14 @@ pub fn equal_roots_mean_equal_live_states()
     ensures { (table : Table) (forks : ForkState) (a b : List ℕ) (m n : State) → IsForkState forks → AreStates forks → HoldsCounted table forks → state_at forks a ≡ Some m → state_at forks b ≡ Some n → (root m ≡ root n) ↔ (m ≡ n) }
 {}
 
-/// The texts of the state after a batch are texts of the state before it or made by the batch, and what is made is among them. A digest that gains is that of a text that is made. So a table that holds the state before and each text that is made holds the state afterwards.
+/// The texts of the state after a batch are texts of the state before it or made by the batch, and what is made is among them. A digest that gains is that of a text that is made, and a text that is made gains where a table of the counted texts does not have it. So a table that holds the state before and each text that is made holds the state afterwards.
 pub fn made_texts_complete_a_state()
     ensures texts { (state : State) (changes : Changes) (t : List ℕ) → Contains (texts_of (after state changes)) t → Contains (texts_of state) t ⊎ Contains (made_texts state changes) t }
     ensures made { (state : State) (changes : Changes) (t : List ℕ) → Contains (made_texts state changes) t → Contains (texts_of (after state changes)) t }
     ensures gained { (state : State) (changes : Changes) (digest : List ℕ) → 1 ≤ gain state changes digest → (t : List ℕ) × Contains (made_texts state changes) t × (sha256 t ≡ digest) }
+    ensures unheld { (table : Table) (forks : ForkState) (id : List ℕ) (state : State) (changes : Changes) (t : List ℕ) → IsForkState forks → HoldsCounted table forks → state_at forks id ≡ Some state → Contains (made_texts state changes) t → get table (sha256 t) ≡ None → 1 ≤ gain state changes (sha256 t) }
     ensures holds { (table : Table) (state : State) (changes : Changes) → Holds table state → ((t : List ℕ) → Contains (made_texts state changes) t → (get table (sha256 t) ≡ Some t) × (sha256 t ≢ zero_digest)) → Holds table (after state changes) }
+    ensures later { (table later : Table) (state : State) → Holds table state → ((t : List ℕ) → Contains (texts_of state) t → get later (sha256 t) ≡ get table (sha256 t)) → Holds later state }
 {}
 
 // ---- texts and digests
@@ -155,6 +164,13 @@ pub fn where_nothing_clashes()
 pub fn clashes_are_met_in_a_table()
     ensures one { (name : List ℕ → List ℕ) (held made : List (List ℕ)) (digest : List ℕ) → Clashes name held made digest ↔ ((t : List ℕ) × Contains made t × Clashes name held (t ∷ []) digest) }
     ensures table { (table : Table) (forks : ForkState) (t : List ℕ) → IsForkState forks → HoldsCounted table forks → ((sha256 t ≡ zero_digest) ⊎ IsSomeAnd (get table (sha256 t)) (λ other. other ≢ t)) ↔ Clashes sha256 (live_texts forks) (t ∷ []) (sha256 t) }
+{}
+
+/// Texts in the order of their names share none, and of such texts the first that clashes with those held has the least name.
+pub fn clashes_in_rising_order()
+    ensures within { (name : List ℕ → List ℕ) (made texts : List (List ℕ)) → IsStrictlySortedBy (slice_cmp nat_cmp) (map name texts) → ((t : List ℕ) → Contains made t → Contains texts t) → clash_within name made ≡ None }
+    ensures none { (name : List ℕ → List ℕ) (held made texts : List (List ℕ)) → ((t : List ℕ) → Contains made t → Contains texts t) → ((t : List ℕ) → Contains texts t → Clashes name held (t ∷ []) (name t) → ⊥) → clash_with name held made ≡ None }
+    ensures first { (name : List ℕ → List ℕ) (held made done left : List (List ℕ)) (t : List ℕ) → IsStrictlySortedBy (slice_cmp nat_cmp) (map name (done ++ t ∷ left)) → ((u : List ℕ) → Contains made u → Contains (done ++ t ∷ left) u) → Contains made t → ((u : List ℕ) → Contains done u → Clashes name held (u ∷ []) (name u) → ⊥) → Clashes name held (t ∷ []) (name t) → clash_with name held made ≡ Some (name t) }
 {}
 
 // ---- bounds
