@@ -1,6 +1,5 @@
 -- Where no other text has a text's digest, the digest occurs and is counted as often as the text.
-use Rattle.std.proofs.Common.{◌≡◌, ◌≢◌, ℕ, ◌+◌, ◌-◌, nat_eq, Bool, true, false, cond, List, [], ◌∷◌, ◌++◌, Option, None, Some, Contains, ◌⊎◌, inl, inr, ⊎_elim, refl, sym, ◌∙◌, ap, ap₂, subst}
-use Rattle.std.specs.List.{count_by, sum_by}
+use Rattle.std.proofs.Common.{◌≡◌, ℕ, ◌+◌, ◌-◌, nat_eq, Bool, true, false, cond, List, ◌∷◌, ◌++◌, Option, None, Some, inl, inr, refl, sym, ◌∙◌, ap, ap₂, subst}
 use Rattle.std.specs.Option.{option_and_then}
 use Rattle.std.specs.Cmp.Lexicographic.{pointwise}
 use Rattle.std.specs.FinMap.{get}
@@ -8,18 +7,17 @@ use Rattle.std.proofs.lemmas.Option.{same_Some}
 use Rattle.sha2.specs.Sha256.{sha256}
 use Rattle.trie_model.specs.State.{State}
 use Rattle.trie_model.specs.Root.{NoClash, Table, digest_occurrences, occurrences, texts_of}
-use Rattle.trie_model.proofs.Members.{IsIn, contains_of_in, in_of_contains, in-append_left, in-append_right}
+use Rattle.trie_model.proofs.Members.{IsIn, contains_of_in, in-append_left, in-append_right}
 use Rattle.batch_model.specs.Changes.{Changes, after}
 use Rattle.change_model.specs.Ledger.{gain, loss}
 use Rattle.fork_model.specs.Trees.{prev_of}
-use Rattle.fork_model.specs.States.{Block, ForkState, IsForkState, block_at, state_at, tree_of_blocks}
+use Rattle.fork_model.specs.States.{Block, ForkState, IsForkState, state_at, tree_of_blocks}
 use Rattle.fork_model.specs.Laws.{ids_behind}
 use Rattle.fork_model.proofs.Ids.{same-itself, same_from, apart_is}
-use Rattle.count_model.specs.Counts.{Measure, count, counted, digest_count, in_state, of_digest, of_text, prev_state_at, rise}
+use Rattle.count_model.specs.Counts.{Measure, count, counted, digest_count, in_state, of_digest, of_text, rise}
 use Rattle.count_model.specs.Tables.{HoldsCounted, live_texts}
 use Rattle.count_model.proofs.Sums.{sum_by-in}
 use Rattle.count_model.proofs.Live.{block-in, block-of_state, live-in, texts-counted}
-use Rattle.count_model.proofs.Held.{clear-live}
 
 -- no other text of a list has a text's digest
 pub IsAlone : List (List ℕ) → List ℕ → Type 0

@@ -2,7 +2,6 @@
 use Rattle.std.proofs.Common.{◌≡◌, ℕ, zero, suc, ◌+◌, ◌-◌, ◌*◌, ◌^◌, ◌≤◌, ◌&&◌, not, nat_eq, Bool, true, false, cond, List, [], ◌∷◌, ◌++◌, length, map, Option, None, Some, option_map, is_some, refl, sym, ◌∙◌, ap, ap₂, subst, arith, length-append, mul-le-mul_right}
 use Rattle.std.specs.List.{AllByRecursion, sum_by}
 use Rattle.std.specs.Cmp.Lexicographic.{pointwise}
-use Rattle.std.proofs.lemmas.Bool.{and_parts}
 use Rattle.std.proofs.lemmas.List.{length-map}
 use Rattle.std.proofs.lemmas.List.Sums.{count_by-le-length}
 use Rattle.std.specs.FinMap.{entries}
@@ -14,9 +13,8 @@ use Rattle.byte_model.proofs.Below.{sum_below-le}
 use Rattle.byte_model.specs.Node as node
 use Rattle.byte_model.specs.Node.{IsShaped, ValueRef, child_count}
 use Rattle.record_model.specs.Fits.{has_place}
-use Rattle.record_model.specs.Records.{IsRecord, has_shape}
 use Rattle.trie_model.specs.State.{State, IsState, Row, rows_of}
-use Rattle.trie_model.specs.Tree.{Tree, nothing, leaf, branch, extension, tree_of}
+use Rattle.trie_model.specs.Tree.{Tree, nothing, leaf, branch, extension}
 use Rattle.trie_model.specs.Grown.{here, under}
 use Rattle.trie_model.specs.Texts.{behind, name_of, node_of, places, text, value_ref}
 use Rattle.trie_model.specs.Root.{digest_occurrences, occurrences, places_of, subtree_at, text_at, texts_of}
@@ -31,7 +29,7 @@ use Rattle.count_model.specs.Tables.{AreStates}
 use Rattle.count_model.proofs.Sums.{sum_by-bound}
 use Rattle.count_model.proofs.Counted.{counted-all}
 use Rattle.count_model.proofs.Live.{block-in, block-of_state}
-use Rattle.visit_model.proofs.ShownFits.{FitsBelow, IsThere, TopFits, state_fits}
+use Rattle.visit_model.proofs.ShownFits.{FitsBelow, IsThere, state_fits}
 
 -- ---- lists joined
 

@@ -17,7 +17,7 @@ use Rattle.change_model.specs.Exchange.{taken_texts}
 use Rattle.change_model.proofs.Balance.{exchange, set_values-after}
 use Rattle.change_model.proofs.Filtered.{in_filter_from, in_filter_map_from}
 use Rattle.fork_model.specs.States.{ForkState, IsForkState, state_at}
-use Rattle.fork_model.proofs.Ids.{found_not_none, same-itself, same_from}
+use Rattle.fork_model.proofs.Ids.{found_not_none, same_from}
 use Rattle.count_model.specs.Tables.{HoldsCounted}
 use Rattle.count_model.proofs.Live.{count-some, digest-occurs, digest_occurs_from, live-of_state, text-occurs, text_occurs_from, texts-counted}
 

@@ -12,19 +12,19 @@ use Rattle.trie_model.specs.State.{State}
 use Rattle.trie_model.proofs.Members.{IsIn}
 use Rattle.batch_model.specs.Changes.{Changes, after}
 use Rattle.change_model.proofs.Filtered.{in_filter_from}
-use Rattle.fork_model.specs.Trees.{Header, BlockTree, IsTree, block_fault, block_of, descends, dropped, ids_of, is_live, moved, passed, prev_of}
+use Rattle.fork_model.specs.Trees.{Header, BlockTree, block_of, descends, dropped, ids_of, moved, passed, prev_of}
 use Rattle.fork_model.specs.States.{Block, ForkState, IsForkState, block_at, head_moved, state_at, tree_of_blocks, with_block}
 use Rattle.fork_model.specs.Laws.{ids_behind}
 use Rattle.fork_model.proofs.Ids.{found, apart_from, apart_is, found-behind, found-here, found-push_new, found-push_old, found_not_none, same-itself, same_or_other}
 use Rattle.fork_model.proofs.Lines.{by_lines, head-live, stands_in, StandsIn}
-use Rattle.fork_model.proofs.Faults.{IsAccepted, accepted}
+use Rattle.fork_model.proofs.Faults.{IsAccepted}
 use Rattle.fork_model.proofs.Descent.{descends-itself, descends-over}
 use Rattle.fork_model.proofs.Moves.{or_false}
 use Rattle.fork_model.proofs.Passed.{behind_head, passed-head, passed-over, was-live}
 use Rattle.fork_model.proofs.Partition.{dropped-head, moved-head}
 use Rattle.fork_model.proofs.States.{block_key, block_of-at, over_prev, tree-moved, with_block-is}
-use Rattle.fork_model.proofs.Told.{all-told, found_live, states-kept}
-use Rattle.count_model.specs.Counts.{Measure, counted, fall, in_state, prev_state_at, rise, taken_away}
+use Rattle.fork_model.proofs.Told.{all-told, states-kept}
+use Rattle.count_model.specs.Counts.{Measure, counted, fall, in_state, rise, taken_away}
 use Rattle.count_model.proofs.Sums.{sum_by-in}
 
 -- ---- ids of live blocks

@@ -1,21 +1,20 @@
 -- Tables that have exactly the texts that are counted.
-use Rattle.std.proofs.Common.{◌≡◌, ◌≢◌, ◌↔◌, ℕ, zero, suc, ◌+◌, ◌-◌, ◌≤◌, nat_eq, nat_lt, Bool, true, false, cond, List, [], ◌∷◌, ◌++◌, map, Option, None, Some, is_some, Contains, ◌⊎◌, inl, inr, ⊎_elim, refl, sym, ◌∙◌, ap, ap₂, subst, arith}
-use Rattle.std.specs.List.{AllByRecursion, count_by}
-use Rattle.std.specs.Cmp.Lexicographic.{pointwise}
-use Rattle.std.specs.FinMap.{contains_key, entries, get}
+use Rattle.std.proofs.Common.{◌≡◌, ◌≢◌, ◌↔◌, ℕ, zero, suc, ◌≤◌, nat_lt, true, false, List, ◌++◌, Option, None, Some, is_some, Contains, ⊎_elim, refl, sym, ◌∙◌, ap, subst, arith}
+use Rattle.std.specs.List.{AllByRecursion}
+use Rattle.std.specs.FinMap.{contains_key, get}
 use Rattle.std.proofs.lemmas.Bool.Decides.{nat_tests}
 use Rattle.std.proofs.lemmas.Option.{same_Some}
 use Rattle.std.proofs.lemmas.List.Elements.{Contains-append_cases}
 use Rattle.sha2.specs.Sha256.{sha256}
 use Rattle.trie_model.specs.State.{State, IsState}
-use Rattle.trie_model.specs.Root.{Holds, NoClash, Table, digest_occurrences, occurrences, root, texts_of, zero_digest}
+use Rattle.trie_model.specs.Root.{Holds, NoClash, Table, root, texts_of, zero_digest}
 use Rattle.trie_model.proofs.Members.{IsIn, all_at, all_of, contains_of_in, in_of_contains}
 use Rattle.trie_model.proofs.Distinct.{root-same}
 use Rattle.fork_model.specs.States.{Block, ForkState, IsForkState, state_at}
 use Rattle.fork_model.proofs.Ids.{found_not_none}
-use Rattle.count_model.specs.Counts.{count, digest_count}
+use Rattle.count_model.specs.Counts.{digest_count}
 use Rattle.count_model.specs.Tables.{AreStates, HoldsCounted, live_texts}
-use Rattle.count_model.proofs.Live.{block-in, block-of_state, digests-counted, live-in, live-of_state, live_in_from, texts-counted}
+use Rattle.count_model.proofs.Live.{block-in, block-of_state, digests-counted, live-of_state, live_in_from, texts-counted}
 
 -- no clash in a part of a list
 pub NoClash-part : (texts whole : List (List ℕ)) → ((t : List ℕ) → Contains texts t → Contains whole t) → NoClash whole → NoClash texts

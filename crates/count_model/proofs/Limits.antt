@@ -1,7 +1,6 @@
 -- The states of live blocks keep to the limits.
-use Rattle.std.proofs.Common.{◌≡◌, ℕ, ◌≤◌, ◌^◌, Bool, true, false, cond, List, [], ◌∷◌, ◌++◌, length, Option, None, Some, ◌⊎◌, inl, inr, refl, sym, ◌∙◌, ap, subst, arith}
+use Rattle.std.proofs.Common.{◌≡◌, ℕ, ◌≤◌, ◌^◌, List, [], ◌∷◌, ◌++◌, length, Some, ◌⊎◌, inl, inr, sym, subst, arith}
 use Rattle.std.specs.List.{AllByRecursion, filter}
-use Rattle.std.specs.Option.{option_map}
 use Rattle.std.specs.FinMap.{entries}
 use Rattle.trie_model.specs.State.{State, IsState, IsPair}
 use Rattle.trie_model.proofs.Members.{IsIn, all_at, all_of, in-append_cases}
@@ -9,7 +8,7 @@ use Rattle.batch_model.specs.Changes.{AreChanges, Changes, after}
 use Rattle.batch_model.proofs.Laying.{pairs-after}
 use Rattle.change_model.proofs.Filtered.{in_filter_from}
 use Rattle.fork_model.specs.Trees.{Header, descends}
-use Rattle.fork_model.specs.States.{Block, ForkState, block_at, first_fork, head_moved, state_at, tree_of_blocks, with_block}
+use Rattle.fork_model.specs.States.{Block, ForkState, first_fork, head_moved, state_at, tree_of_blocks, with_block}
 use Rattle.fork_model.proofs.States.{over_prev, with_block-is}
 use Rattle.count_model.specs.Tables.{AreStates}
 use Rattle.count_model.proofs.Live.{block-of_state}

@@ -1,14 +1,13 @@
 -- The texts of live blocks, and what is counted of them.
-use Rattle.std.proofs.Common.{◌≡◌, ◌≢◌, ◌↔◌, ℕ, ◌+◌, ◌-◌, ◌≤◌, nat_eq, Bool, true, false, cond, List, [], ◌∷◌, ◌++◌, map, Option, None, Some, is_some, Contains, ◌⊎◌, inl, inr, ⊎_elim, refl, sym, ◌∙◌, ap, ap₂, subst, arith}
-use Rattle.std.specs.List.{count_by, flat_map, sum_by}
+use Rattle.std.proofs.Common.{◌≡◌, ◌↔◌, ℕ, ◌-◌, ◌≤◌, nat_eq, Bool, true, false, cond, List, [], ◌∷◌, map, Option, None, Some, Contains, ◌⊎◌, inl, inr, ⊎_elim, refl, sym, ◌∙◌, ap, subst, arith}
+use Rattle.std.specs.List.{count_by, flat_map}
 use Rattle.std.specs.Option.{option_map}
 use Rattle.std.specs.Cmp.Lexicographic.{pointwise}
-use Rattle.std.proofs.lemmas.Bool.{false≢true}
 use Rattle.sha2.specs.Sha256.{sha256}
 use Rattle.trie_model.specs.State.{State}
 use Rattle.trie_model.specs.Root.{digest_occurrences, occurrences, texts_of}
 use Rattle.trie_model.proofs.Members.{IsIn, contains_of_in, in_of_contains, in-append_left, in-append_right, in-append_cases}
-use Rattle.fork_model.specs.Trees.{Header, BlockTree, block_of, ids_of}
+use Rattle.fork_model.specs.Trees.{BlockTree, block_of, ids_of}
 use Rattle.fork_model.specs.States.{Block, ForkState, IsForkState, block_at, state_at, tree_of_blocks}
 use Rattle.fork_model.proofs.Ids.{found, found-behind, found-here, found_not_none, same-itself, same_from, same_or_other, AreApart}
 use Rattle.fork_model.proofs.Lines.{id_key}

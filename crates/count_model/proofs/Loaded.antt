@@ -1,11 +1,10 @@
 -- What is loaded over a state's texts is what a reading visits there.
-use Rattle.std.proofs.Common.{◌≡◌, ◌≢◌, ℕ, zero, suc, ◌+◌, ◌==◌, ◌&&◌, ◌||◌, not, Bool, true, false, cond, List, [], ◌∷◌, ◌++◌, length, map, Option, None, Some, is_some, refl, sym, ◌∙◌, ap, ap₂, subst, arith, length-append}
-use Rattle.std.specs.List.{AllByRecursion, filter}
+use Rattle.std.proofs.Common.{◌≡◌, ◌≢◌, ℕ, zero, suc, ◌+◌, ◌==◌, ◌&&◌, ◌||◌, Bool, true, false, cond, List, [], ◌∷◌, ◌++◌, length, map, Option, None, Some, is_some, refl, sym, ◌∙◌, ap, ap₂, arith, length-append}
+use Rattle.std.specs.List.{filter}
 use Rattle.std.specs.Option.{option_map}
-use Rattle.std.specs.FinMap.{empty, empty_of_len, entries, get, len, len-empty}
+use Rattle.std.specs.FinMap.{empty, empty_of_len, get, len, len-empty}
 use Rattle.std.specs.Ordering.{nat_cmp}
 use Rattle.std.specs.Cmp.Lexicographic.{slice_cmp}
-use Rattle.std.proofs.lemmas.Bool.{and_parts}
 use Rattle.std.proofs.lemmas.Bool.Decides.{nat_tests}
 use Rattle.std.proofs.lemmas.List.{length-map}
 use Rattle.sha2.specs.Sha256.{sha256}
@@ -17,8 +16,8 @@ use Rattle.visit_model.specs.Bounds.{at_most_one, has_prefix}
 use Rattle.visit_model.specs.Visits.{lookup_visits, top_visits}
 use Rattle.visit_model.proofs.Lookups.{lookup_visits-state}
 use Rattle.visit_model.proofs.Roots.{top_visits-empty, top_visits-state}
-use Rattle.batch_model.specs.Changes.{AreChanges, Changes, after, after_each, changed_paths}
-use Rattle.change_model.specs.Places.{above, all_stand_below, is_branch, is_touched, leads_to, remains_alone, touched_places}
+use Rattle.batch_model.specs.Changes.{AreChanges, Changes, after, after_each}
+use Rattle.change_model.specs.Places.{above, is_branch, is_touched, leads_to, remains_alone, touched_places}
 use Rattle.change_model.specs.Tables.{HoldsPlaces}
 use Rattle.change_model.specs.Visits.{batch_visits}
 use Rattle.change_model.proofs.Filtered.{in_filter_from}

@@ -1,10 +1,9 @@
 -- What the laws on counts say, from the lemmas of the other files.
-use Rattle.std.proofs.Common.{◌≡◌, ℕ, ◌+◌, ◌-◌, false, true, List, [], ◌++◌, Option, None, Some, IfSome, refl, sym, ◌∙◌, ap, ap₂, subst}
+use Rattle.std.proofs.Common.{◌≡◌, ℕ, ◌+◌, ◌-◌, false, true, List, [], ◌++◌, Option, None, Some, IfSome, sym, ◌∙◌, ap, ap₂, subst}
 use Rattle.std.specs.Option.{option_map, IsSomeAnd}
 use Rattle.std.specs.Str.{bytes_eq}
 use Rattle.std.specs.FinMap.{empty}
 use Rattle.trie_model.specs.State.{State}
-use Rattle.trie_model.specs.Root.{texts_of}
 use Rattle.trie_model.proofs.Worked.{texts_of-empty}
 use Rattle.batch_model.specs.Changes.{Changes, after}
 use Rattle.fork_model.specs.Trees.{BlockTree, Header, block_fault, is_live, moved}
@@ -17,7 +16,7 @@ use Rattle.fork_model.proofs.Told.{found_live}
 use Rattle.fork_model.proofs.Worked.{all_of_forks}
 use Rattle.count_model.specs.Counts.{Measure, counted, fall, in_state, rise, taken_away}
 use Rattle.count_model.specs.Tables.{live_texts}
-use Rattle.count_model.proofs.Counted.{IsBehind, SidesStay, counted-moved, counted-with_block, fall-behind, fall-new, rise-behind, rise-new, sides-grown, sides-kept}
+use Rattle.count_model.proofs.Counted.{IsBehind, counted-moved, counted-with_block, fall-behind, fall-new, rise-behind, rise-new, sides-grown, sides-kept}
 use Rattle.count_model.proofs.Live.{block-of_state}
 
 -- at the start there is the empty state alone

@@ -1,11 +1,11 @@
 -- Worked histories, whose digests and counts were computed outside of this project.
-use Rattle.std.specs.Prelude.{ℕ, List, [], ◌∷◌, None, Some}
+use Rattle.std.specs.Prelude.{ℕ, List, [], ◌∷◌, Some}
 use Rattle.std.specs.FinMap.{from_sorted}
 use Rattle.trie_model.specs.Root.{zero_digest}
 use Rattle.batch_model.specs.Changes.{Changes}
 use Rattle.change_model.specs.Examples.{delete_b}
-use Rattle.fork_model.specs.States.{ForkState, first_fork, after_offer, after_head}
-use Rattle.fork_model.specs.Examples.{header_of, id_of, many}
+use Rattle.fork_model.specs.States.{ForkState, first_fork, after_offer}
+use Rattle.fork_model.specs.Examples.{header_of, many}
 
 -- the keys 61 and 62, each as its own value, and both with the value 76
 abbrev pub set_two : Changes

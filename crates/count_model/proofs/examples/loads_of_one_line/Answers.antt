@@ -1,4 +1,4 @@
-use Rattle.std.proofs.Common.{◌≡◌, ℕ, List, [], ◌∷◌, map, refl, ap, ap₂, ◌∙◌}
+use Rattle.std.proofs.Common.{◌≡◌, ℕ, [], ◌∷◌, refl}
 use Rattle.change_model.proofs.Worked.{all_of_batches}
 use Rattle.fork_model.proofs.Worked.{all_of_forks}
 use Rattle.count_model.specs.Loads.{loads}
