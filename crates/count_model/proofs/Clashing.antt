@@ -25,7 +25,7 @@ use Rattle.fork_model.specs.States.{Block, ForkState, IsForkState, head_moved, s
 use Rattle.fork_model.proofs.Ids.{apart_from, apart_is, same-itself, same_from, same_or_other}
 use Rattle.fork_model.proofs.States.{over_prev, with_block-is}
 use Rattle.count_model.specs.Clashes.{clash_with, clash_within, least_name, live_clash, made_clash, share_name}
-use Rattle.count_model.specs.Laws.{Clashes, IsLeast, IsShared, shared_name, zero_name}
+use Rattle.count_model.specs.Laws.{ClashesWith, IsLeast, IsShared, shared_name, zero_name}
 use Rattle.count_model.specs.Tables.{HoldsCounted, live_texts}
 use Rattle.count_model.proofs.Completed.{new_texts}
 use Rattle.count_model.proofs.Held.{NoClash-part}
@@ -191,17 +191,17 @@ module _ (name : List ℕ → List ℕ) where
       abbrev with_held : List (List ℕ)
       with_held = map name (filter meets made)
 
-      with-to : (n : List ℕ) → IsIn with_held n → Clashes name held made n
+      with-to : (n : List ℕ) → IsIn with_held n → ClashesWith name held made n
       with-to n i =
           let t = in_map_from name (filter meets made) n i in
           let parts = in_filter_from meets made t.0 t.1 in
-          subst (Clashes name held made) t.2 (go t.0 parts.0 (pointwise nat_eq (name t.0) zero_digest) refl parts.1)
+          subst (ClashesWith name held made) t.2 (go t.0 parts.0 (pointwise nat_eq (name t.0) zero_digest) refl parts.1)
         where
-          go : (t : List ℕ) → IsIn made t → (b : Bool) → pointwise nat_eq (name t) zero_digest ≡ b → (b || list_any (share_name name t) held) ≡ true → Clashes name held made (name t)
+          go : (t : List ℕ) → IsIn made t → (b : Bool) → pointwise nat_eq (name t) zero_digest ≡ b → (b || list_any (share_name name t) held) ≡ true → ClashesWith name held made (name t)
           go t i true e any = zero_name t (contains_of_in made t i) refl (same_from (name t) zero_digest e)
           go t i false e any = shared_name (shared_from made held t i any)
 
-      with-from : (n : List ℕ) → Clashes name held made n → IsIn with_held n
+      with-from : (n : List ℕ) → ClashesWith name held made n → IsIn with_held n
       with-from n (zero_name t here is zero) =
           subst (IsIn with_held) is (in-map name (filter meets made) t (in_filter meets made t (in_of_contains made t here) (ap (λ b. b || list_any (share_name name t) held) (ap (λ m. pointwise nat_eq m zero_digest) (is ∙ zero) ∙ same-itself zero_digest))))
       with-from n (shared_name is) =
@@ -211,13 +211,13 @@ module _ (name : List ℕ → List ℕ) where
           or_true true = refl
           or_true false = refl
 
-      pub with-told : (n : List ℕ) → (clash_with name held made ≡ Some n) ↔ IsLeast (Clashes name held made) n
+      pub with-told : (n : List ℕ) → (clash_with name held made ≡ Some n) ↔ IsLeast (ClashesWith name held made) n
       unfolding clash_with
-      with-told = least-told (Clashes name held made) with_held with-to with-from
+      with-told = least-told (ClashesWith name held made) with_held with-to with-from
 
-      pub with-none : (clash_with name held made ≡ None) ↔ ((n : List ℕ) → Clashes name held made n → ⊥)
+      pub with-none : (clash_with name held made ≡ None) ↔ ((n : List ℕ) → ClashesWith name held made n → ⊥)
       unfolding clash_with
-      with-none = none-told (Clashes name held made) with_held with-to with-from
+      with-none = none-told (ClashesWith name held made) with_held with-to with-from
 
 -- ---- where nothing clashes
 
@@ -295,7 +295,7 @@ held-clear held made part clear = (
   (with-none sha256 made held).1 no_clash,
 )
   where
-    no_clash : (digest : List ℕ) → Clashes sha256 held made digest → ⊥
+    no_clash : (digest : List ℕ) → ClashesWith sha256 held made digest → ⊥
     no_clash digest (zero_name t here is zero) = clear.nonzero t (part t here) (is ∙ zero)
     no_clash digest (shared_name is) = is.different (clear.apart is.one is.other (part is.one is.first) is.second (is.is_of_one ∙ sym is.is_of_other))
 
@@ -315,14 +315,14 @@ only_one t u c = go (in_of_contains (t ∷ []) u c)
     go (inr none) = absurd none
 
 -- A text meets another under its digest, or has the zero one, exactly where it clashes with the live texts.
-pub met-in_table : (table : Table) (forks : ForkState) (t : List ℕ) → IsForkState forks → HoldsCounted table forks → ((sha256 t ≡ zero_digest) ⊎ IsSomeAnd (get table (sha256 t)) (λ other. other ≢ t)) ↔ Clashes sha256 (live_texts forks) (t ∷ []) (sha256 t)
+pub met-in_table : (table : Table) (forks : ForkState) (t : List ℕ) → IsForkState forks → HoldsCounted table forks → ((sha256 t ≡ zero_digest) ⊎ IsSomeAnd (get table (sha256 t)) (λ other. other ≢ t)) ↔ ClashesWith sha256 (live_texts forks) (t ∷ []) (sha256 t)
 met-in_table table forks t is holds = (to, back)
   where
-    to : (sha256 t ≡ zero_digest) ⊎ IsSomeAnd (get table (sha256 t)) (λ other. other ≢ t) → Clashes sha256 (live_texts forks) (t ∷ []) (sha256 t)
+    to : (sha256 t ≡ zero_digest) ⊎ IsSomeAnd (get table (sha256 t)) (λ other. other ≢ t) → ClashesWith sha256 (live_texts forks) (t ∷ []) (sha256 t)
     to (inl zero) = zero_name t (contains_of_in (t ∷ []) t (inl refl)) refl zero
     to (inr other) = go (get table (sha256 t)) refl other
       where
-        go : (o : Option (List ℕ)) → get table (sha256 t) ≡ o → IsSomeAnd o (λ other. other ≢ t) → Clashes sha256 (live_texts forks) (t ∷ []) (sha256 t)
+        go : (o : Option (List ℕ)) → get table (sha256 t) ≡ o → IsSomeAnd o (λ other. other ≢ t) → ClashesWith sha256 (live_texts forks) (t ∷ []) (sha256 t)
         go None e h = absurd h
         go (Some u) e h = shared_name (record {
           one = t;
@@ -334,28 +334,28 @@ met-in_table table forks t is holds = (to, back)
           is_of_other = holds.named (sha256 t) u e;
         })
 
-    back : Clashes sha256 (live_texts forks) (t ∷ []) (sha256 t) → (sha256 t ≡ zero_digest) ⊎ IsSomeAnd (get table (sha256 t)) (λ other. other ≢ t)
+    back : ClashesWith sha256 (live_texts forks) (t ∷ []) (sha256 t) → (sha256 t ≡ zero_digest) ⊎ IsSomeAnd (get table (sha256 t)) (λ other. other ≢ t)
     back (zero_name u c e zero) = inl zero
     back (shared_name shared) =
         let held : get table (sha256 t) ≡ Some shared.other = ap (get table) (sym shared.is_of_other) ∙ holds.found shared.other ((texts-counted forks is shared.other).1 shared.second) in
         inr (subst (λ o. IsSomeAnd o (λ other. other ≢ t)) (sym held) (λ same. shared.different (sym (only_one t shared.one shared.first) ∙ sym same)))
 
 -- what clashes of some texts does so of one of them
-pub clash-of_one : (name : List ℕ → List ℕ) (held made : List (List ℕ)) (digest : List ℕ) → Clashes name held made digest ↔ ((t : List ℕ) × Contains made t × Clashes name held (t ∷ []) digest)
+pub clash-of_one : (name : List ℕ → List ℕ) (held made : List (List ℕ)) (digest : List ℕ) → ClashesWith name held made digest ↔ ((t : List ℕ) × Contains made t × ClashesWith name held (t ∷ []) digest)
 clash-of_one name held made digest = (to, back)
   where
     first : (t : List ℕ) → Contains (t ∷ []) t
     first t = contains_of_in (t ∷ []) t (inl refl)
 
-    to : Clashes name held made digest → (t : List ℕ) × Contains made t × Clashes name held (t ∷ []) digest
+    to : ClashesWith name held made digest → (t : List ℕ) × Contains made t × ClashesWith name held (t ∷ []) digest
     to (zero_name t here is zero) = (t, here, zero_name t (first t) is zero)
     to (shared_name is) = (is.one, is.first, shared_name (record { one = is.one; other = is.other; first = first is.one; second = is.second; different = is.different; is_of_one = is.is_of_one; is_of_other = is.is_of_other }))
 
-    back_of : (t : List ℕ) → Contains made t → Clashes name held (t ∷ []) digest → Clashes name held made digest
+    back_of : (t : List ℕ) → Contains made t → ClashesWith name held (t ∷ []) digest → ClashesWith name held made digest
     back_of t here (zero_name u c is zero) = zero_name u (subst (Contains made) (only_one t u c) here) is zero
     back_of t here (shared_name is) = shared_name (record { one = is.one; other = is.other; first = subst (Contains made) (only_one t is.one is.first) here; second = is.second; different = is.different; is_of_one = is.is_of_one; is_of_other = is.is_of_other })
 
-    back : (t : List ℕ) × Contains made t × Clashes name held (t ∷ []) digest → Clashes name held made digest
+    back : (t : List ℕ) × Contains made t × ClashesWith name held (t ∷ []) digest → ClashesWith name held made digest
     back one = back_of one.0 one.1 one.2
 
 -- ---- texts in the order of their digests
@@ -389,24 +389,24 @@ rising-within name made texts rising all =
     (within-none name made).1 (λ digest is. is.different (rising_apart name texts rising is.one is.other (in_of_contains texts is.one (all is.one is.first)) (in_of_contains texts is.other (all is.other is.second)) (is.is_of_one ∙ sym is.is_of_other)))
 
 -- the name by which one text clashes is its own
-own_name : (name : List ℕ → List ℕ) (held : List (List ℕ)) (t digest : List ℕ) → Clashes name held (t ∷ []) digest → name t ≡ digest
+own_name : (name : List ℕ → List ℕ) (held : List (List ℕ)) (t digest : List ℕ) → ClashesWith name held (t ∷ []) digest → name t ≡ digest
 own_name name held t digest (zero_name u here is zero) = ap name (only_one t u here) ∙ is
 own_name name held t digest (shared_name is) = ap name (only_one t is.one is.first) ∙ is.is_of_one
 
-pub rising-none : (name : List ℕ → List ℕ) (held made texts : List (List ℕ)) → ((t : List ℕ) → Contains made t → Contains texts t) → ((t : List ℕ) → Contains texts t → Clashes name held (t ∷ []) (name t) → ⊥) → clash_with name held made ≡ None
+pub rising-none : (name : List ℕ → List ℕ) (held made texts : List (List ℕ)) → ((t : List ℕ) → Contains made t → Contains texts t) → ((t : List ℕ) → Contains texts t → ClashesWith name held (t ∷ []) (name t) → ⊥) → clash_with name held made ≡ None
 rising-none name held made texts all none =
     (with-none name made held).1 (λ digest clashes.
     let one = (clash-of_one name held made digest).0 clashes in
-    none one.0 (all one.0 one.1) (subst (Clashes name held (one.0 ∷ [])) (sym (own_name name held one.0 digest one.2)) one.2))
+    none one.0 (all one.0 one.1) (subst (ClashesWith name held (one.0 ∷ [])) (sym (own_name name held one.0 digest one.2)) one.2))
 
-pub rising-first : (name : List ℕ → List ℕ) (held made done left : List (List ℕ)) (t : List ℕ) → IsStrictlySortedBy (slice_cmp nat_cmp) (map name (done ++ t ∷ left)) → ((u : List ℕ) → Contains made u → Contains (done ++ t ∷ left) u) → Contains made t → ((u : List ℕ) → Contains done u → Clashes name held (u ∷ []) (name u) → ⊥) → Clashes name held (t ∷ []) (name t) → clash_with name held made ≡ Some (name t)
+pub rising-first : (name : List ℕ → List ℕ) (held made done left : List (List ℕ)) (t : List ℕ) → IsStrictlySortedBy (slice_cmp nat_cmp) (map name (done ++ t ∷ left)) → ((u : List ℕ) → Contains made u → Contains (done ++ t ∷ left) u) → Contains made t → ((u : List ℕ) → Contains done u → ClashesWith name held (u ∷ []) (name u) → ⊥) → ClashesWith name held (t ∷ []) (name t) → clash_with name held made ≡ Some (name t)
 rising-first name held made done left t rising all here none clashes =
     (with-told name made held (name t)).1 (record { has = (clash-of_one name held made (name t)).1 (t, here, clashes); least = least })
   where
-    least : (other : List ℕ) → Clashes name held made other → IsTrue (is_le (slice_cmp nat_cmp (name t) other))
+    least : (other : List ℕ) → ClashesWith name held made other → IsTrue (is_le (slice_cmp nat_cmp (name t) other))
     least other c = go (in-append_cases done (t ∷ left) one.0 (in_of_contains (done ++ t ∷ left) one.0 (all one.0 one.1)))
       where
-        one : (u : List ℕ) × Contains made u × Clashes name held (u ∷ []) other
+        one : (u : List ℕ) × Contains made u × ClashesWith name held (u ∷ []) other
         one = (clash-of_one name held made other).0 c
 
         own : name one.0 ≡ other
@@ -416,6 +416,6 @@ rising-first name held made done left t rising all here none clashes =
         le h = le_from (slice_cmp nat_cmp (name t) other) h
 
         go : IsIn done one.0 ⊎ ((t ≡ one.0) ⊎ IsIn left one.0) → IsTrue (is_le (slice_cmp nat_cmp (name t) other))
-        go (inl i) = absurd (none one.0 (contains_of_in done one.0 i) (subst (Clashes name held (one.0 ∷ [])) (sym own) one.2))
+        go (inl i) = absurd (none one.0 (contains_of_in done one.0 i) (subst (ClashesWith name held (one.0 ∷ [])) (sym own) one.2))
         go (inr (inl same)) = le (subst (NotAfter (name t)) (ap name same ∙ own) (not_after_itself (name t)))
         go (inr (inr i)) = le (subst (NotAfter (name t)) own (not_after_before (name t) (name one.0) (rising_behind name done t left rising one.0 i)))

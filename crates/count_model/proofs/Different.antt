@@ -18,6 +18,7 @@ use Rattle.trie_model.proofs.Members.{IsIn, all_at, all_of, contains_of_in, in-m
 use Rattle.trie_model.proofs.Order.{first_test, less_of_test, second_test}
 use Rattle.trie_model.proofs.Worked.{Pair}
 use Rattle.batch_model.proofs.Laying.{all_of_get, get_of_all}
+use Rattle.change_model.proofs.Laid.{same_tests}
 use Rattle.fork_model.specs.States.{ForkState, IsForkState}
 use Rattle.fork_model.proofs.Ids.{apart_is, same-itself, same_from}
 use Rattle.count_model.specs.Tables.{HoldsCounted, different, distinct_texts, live_texts}
@@ -39,11 +40,6 @@ length-last_ones (t ∷ texts) = by_test (list_any (bytes_eq t) texts) (length-l
     by_test : (b : Bool) → length (last_ones texts) ≡ different texts → length (cond b (last_ones texts) (t ∷ last_ones texts)) ≡ cond b (different texts) (different texts + 1)
     by_test true e = e
     by_test false e = omega (arith, e)
-
-same_tests : (a b : Bool) → (a ≡ true → b ≡ true) → (b ≡ true → a ≡ true) → a ≡ b
-same_tests true b to back = sym (to refl)
-same_tests false true to back = back refl
-same_tests false false to back = refl
 
 member-in : (texts : List (List ℕ)) (q : List ℕ) → IsIn texts q → list_any (bytes_eq q) texts ≡ true
 member-in texts q i = any_in (bytes_eq q) texts q i (same-itself q)

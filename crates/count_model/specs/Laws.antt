@@ -15,9 +15,9 @@ pub record IsShared (name : List ℕ → List ℕ) (texts others : List (List �
   pub is_of_other : name other ≡ digest
 
 -- Or a text of some has it, and it is the zero one.
-pub data Clashes (name : List ℕ → List ℕ) (held made : List (List ℕ)) (digest : List ℕ) : Type 0 where
-  zero_name : (t : List ℕ) → Contains made t → name t ≡ digest → digest ≡ zero_digest → Clashes name held made digest
-  shared_name : IsShared name made held digest → Clashes name held made digest
+pub data ClashesWith (name : List ℕ → List ℕ) (held made : List (List ℕ)) (digest : List ℕ) : Type 0 where
+  zero_name : (t : List ℕ) → Contains made t → name t ≡ digest → digest ≡ zero_digest → ClashesWith name held made digest
+  shared_name : IsShared name made held digest → ClashesWith name held made digest
 
 -- the least of the digests with a property
 pub record IsLeast (P : List ℕ → Type 0) (digest : List ℕ) : Type 0 where

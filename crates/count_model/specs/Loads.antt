@@ -24,12 +24,12 @@ usage_loads state = if len state == 0 then 0 else 1
 
 -- ---- over live blocks
 
--- What an event asks of tries: to carry out a block at its end, to look a key up in a live block's trie, to tell a live block's usage, or nothing, as every other event.
+-- What an event asks of tries: to carry out a block at its end, to look a key up in a live block's trie, to tell a live block's usage, or no text, as every other event.
 pub data Access : Type 0 where
   carry_out : Header → Changes → Access
   look_up : (id key : List ℕ) → Access
   tell_usage : (id : List ℕ) → Access
-  nothing : Access
+  no_texts : Access
 
 -- Of a block that is refused by its id, prev or height, or since no further one may be live, nothing is loaded. Of any other block its batch is carried out, also where it is refused afterwards.
 abbrev pub block_loads : Option BlockFault → Option State → Changes → ℕ
@@ -41,4 +41,4 @@ unfoldable pub loads : (most : ℕ) → ForkState → Access → ℕ
 loads most forks (carry_out header changes) = block_loads (block_fault most (tree_of_blocks forks) header) (state_at forks header.prev) changes
 loads most forks (look_up id key) = in_state (λ state. lookup_loads state key) (state_at forks id)
 loads most forks (tell_usage id) = in_state usage_loads (state_at forks id)
-loads most forks nothing = 0
+loads most forks no_texts = 0

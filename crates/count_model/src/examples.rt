@@ -1,4 +1,4 @@
-//! Worked histories: how often each text of the live blocks is counted, before and after a move of the head, what is loaded, and names that texts share. The counts were computed by hand and by other programs.
+//! Worked histories: how often each text of the live blocks is counted, before and after a move of the head, what is loaded, and names that texts share. The numbers were computed outside of this project.
 
 ghost use Rattle.std.specs.Prelude.{◌≡◌, [], ◌∷◌, map, None, Some};
 ghost use Rattle.sha2.specs.Sha256.{sha256};
@@ -10,7 +10,7 @@ ghost use Rattle.count_model.specs.Counts.{count, digest_count};
 ghost use Rattle.count_model.specs.Tables.{distinct_texts, live_texts};
 ghost use Rattle.count_model.specs.Clashes.{clash_with, clash_within};
 ghost use Rattle.count_model.specs.Loads.{loads};
-ghost use Rattle.count_model.specs.Loads.Access.{carry_out, look_up, nothing, tell_usage};
+ghost use Rattle.count_model.specs.Loads.Access.{carry_out, look_up, no_texts, tell_usage};
 ghost use Rattle.count_model.specs.Examples.{first_byte, one_line, set_alike, set_two, two_forks};
 
 /// Two keys are set, and one of them is deleted over that: first the extension, the branch, both leaves and both values, then one leaf and its value. What the second block no longer has is counted until the head has passed it.
@@ -46,7 +46,7 @@ pub fn loads_of_one_line()
     ensures missing_key { loads many (one_line set_two) (look_up (id_of 2) (0x62 ∷ [])) ≡ 1 }
     ensures found_key { loads many (one_line set_two) (look_up (id_of 2) (0x61 ∷ [])) ≡ 2 }
     ensures not_live { loads many (one_line set_two) (look_up (id_of 3) (0x61 ∷ [])) ≡ 0 }
-    ensures others { loads many (one_line set_two) nothing ≡ 0 }
+    ensures others { loads many (one_line set_two) no_texts ≡ 0 }
 {}
 
 /// With the first byte for a name, and the zero name for no byte: a text that stands twice does not clash with itself, the least name that is shared is told, and the zero name is told in the second comparison alone.

@@ -22,7 +22,7 @@ ghost use Rattle.fork_model.specs.Trees.{Header, block_fault, dropped, is_live, 
 ghost use Rattle.fork_model.specs.States.{Block, ForkState, IsForkState, block_at, first_fork, head_moved, state_at, tree_of_blocks, with_block};
 ghost use Rattle.count_model.specs.Counts.{Measure, count, counted, digest_count, fall, in_state, of_digest, of_text, rise, taken_away};
 ghost use Rattle.count_model.specs.Clashes.{clash_with, clash_within, live_clash, made_clash};
-ghost use Rattle.count_model.specs.Laws.{Clashes, IsLeast, IsShared};
+ghost use Rattle.count_model.specs.Laws.{ClashesWith, IsLeast, IsShared};
 ghost use Rattle.count_model.specs.Entries.{Entry, Exceeds, times_of};
 ghost use Rattle.count_model.specs.Loads.{batch_loads, lookup_loads, usage_loads};
 ghost use Rattle.count_model.specs.Tables.{AreStates, HoldsCounted, distinct_texts, live_texts};
@@ -149,8 +149,8 @@ pub fn live_states_keep_to_limits()
 pub fn least_clashes_are_told()
     ensures within { (name : List ℕ → List ℕ) (made : List (List ℕ)) (digest : List ℕ) → (clash_within name made ≡ Some digest) ↔ IsLeast (IsShared name made made) digest }
     ensures none_within { (name : List ℕ → List ℕ) (made : List (List ℕ)) → (clash_within name made ≡ None) ↔ ((digest : List ℕ) → IsShared name made made digest → ⊥) }
-    ensures with_held { (name : List ℕ → List ℕ) (held made : List (List ℕ)) (digest : List ℕ) → (clash_with name held made ≡ Some digest) ↔ IsLeast (Clashes name held made) digest }
-    ensures none_with_held { (name : List ℕ → List ℕ) (held made : List (List ℕ)) → (clash_with name held made ≡ None) ↔ ((digest : List ℕ) → Clashes name held made digest → ⊥) }
+    ensures with_held { (name : List ℕ → List ℕ) (held made : List (List ℕ)) (digest : List ℕ) → (clash_with name held made ≡ Some digest) ↔ IsLeast (ClashesWith name held made) digest }
+    ensures none_with_held { (name : List ℕ → List ℕ) (held made : List (List ℕ)) → (clash_with name held made ≡ None) ↔ ((digest : List ℕ) → ClashesWith name held made digest → ⊥) }
 {}
 
 /// Where the live texts do not clash, and a block's texts neither with each other nor with them, the live texts with the block do not clash. A move takes texts away alone, and the texts of a batch that changes nothing are there already.
@@ -162,15 +162,15 @@ pub fn where_nothing_clashes()
 
 /// Texts clash with those of live blocks where one of them does. And in a table that has exactly the counted texts that one meets another text under its digest, or its digest is zero.
 pub fn clashes_are_met_in_a_table()
-    ensures one { (name : List ℕ → List ℕ) (held made : List (List ℕ)) (digest : List ℕ) → Clashes name held made digest ↔ ((t : List ℕ) × Contains made t × Clashes name held (t ∷ []) digest) }
-    ensures table { (table : Table) (forks : ForkState) (t : List ℕ) → IsForkState forks → HoldsCounted table forks → ((sha256 t ≡ zero_digest) ⊎ IsSomeAnd (get table (sha256 t)) (λ other. other ≢ t)) ↔ Clashes sha256 (live_texts forks) (t ∷ []) (sha256 t) }
+    ensures one { (name : List ℕ → List ℕ) (held made : List (List ℕ)) (digest : List ℕ) → ClashesWith name held made digest ↔ ((t : List ℕ) × Contains made t × ClashesWith name held (t ∷ []) digest) }
+    ensures table { (table : Table) (forks : ForkState) (t : List ℕ) → IsForkState forks → HoldsCounted table forks → ((sha256 t ≡ zero_digest) ⊎ IsSomeAnd (get table (sha256 t)) (λ other. other ≢ t)) ↔ ClashesWith sha256 (live_texts forks) (t ∷ []) (sha256 t) }
 {}
 
 /// Texts in the order of their names share none, and of such texts the first that clashes with those held has the least name.
 pub fn clashes_in_rising_order()
     ensures within { (name : List ℕ → List ℕ) (made texts : List (List ℕ)) → IsStrictlySortedBy (slice_cmp nat_cmp) (map name texts) → ((t : List ℕ) → Contains made t → Contains texts t) → clash_within name made ≡ None }
-    ensures none { (name : List ℕ → List ℕ) (held made texts : List (List ℕ)) → ((t : List ℕ) → Contains made t → Contains texts t) → ((t : List ℕ) → Contains texts t → Clashes name held (t ∷ []) (name t) → ⊥) → clash_with name held made ≡ None }
-    ensures first { (name : List ℕ → List ℕ) (held made done left : List (List ℕ)) (t : List ℕ) → IsStrictlySortedBy (slice_cmp nat_cmp) (map name (done ++ t ∷ left)) → ((u : List ℕ) → Contains made u → Contains (done ++ t ∷ left) u) → Contains made t → ((u : List ℕ) → Contains done u → Clashes name held (u ∷ []) (name u) → ⊥) → Clashes name held (t ∷ []) (name t) → clash_with name held made ≡ Some (name t) }
+    ensures none { (name : List ℕ → List ℕ) (held made texts : List (List ℕ)) → ((t : List ℕ) → Contains made t → Contains texts t) → ((t : List ℕ) → Contains texts t → ClashesWith name held (t ∷ []) (name t) → ⊥) → clash_with name held made ≡ None }
+    ensures first { (name : List ℕ → List ℕ) (held made done left : List (List ℕ)) (t : List ℕ) → IsStrictlySortedBy (slice_cmp nat_cmp) (map name (done ++ t ∷ left)) → ((u : List ℕ) → Contains made u → Contains (done ++ t ∷ left) u) → Contains made t → ((u : List ℕ) → Contains done u → ClashesWith name held (u ∷ []) (name u) → ⊥) → ClashesWith name held (t ∷ []) (name t) → clash_with name held made ≡ Some (name t) }
 {}
 
 // ---- bounds
