@@ -26,3 +26,5 @@ pub mod Bounded
 pub mod Loaded
 -- how many different texts there are
 pub mod Different
+-- tables that are changed with the blocks
+pub mod Following

@@ -3,7 +3,7 @@
 ghost use Rattle.std.specs.Prelude.{◌≡◌, ◌≢◌, ◌+◌, ◌-◌, ◌*◌, ◌^◌, ◌≤◌, ◌↔◌, ◌⊎◌, ℕ, nat_lt, true, false, List, [], ◌∷◌, ◌++◌, length, map, flat_map, Contains, sum_by, None, Some};
 ghost use Rattle.std.specs.List.{AllByRecursion};
 ghost use Rattle.std.specs.Option.{IsSomeAnd};
-ghost use Rattle.std.specs.FinMap.{contains_key, entries, get, len};
+ghost use Rattle.std.specs.FinMap.{contains_key, empty, entries, get, len};
 ghost use Rattle.std.specs.List.Sorted.{IsStrictlySortedBy};
 ghost use Rattle.std.specs.Ordering.{nat_cmp};
 ghost use Rattle.std.specs.Cmp.Lexicographic.{slice_cmp};
@@ -94,6 +94,13 @@ pub fn made_texts_complete_a_state()
     ensures unheld { (table : Table) (forks : ForkState) (id : List ℕ) (state : State) (changes : Changes) (t : List ℕ) → IsForkState forks → HoldsCounted table forks → state_at forks id ≡ Some state → Contains (made_texts state changes) t → get table (sha256 t) ≡ None → 1 ≤ gain state changes (sha256 t) }
     ensures holds { (table : Table) (state : State) (changes : Changes) → Holds table state → ((t : List ℕ) → Contains (made_texts state changes) t → (get table (sha256 t) ≡ Some t) × (sha256 t ≢ zero_digest)) → Holds table (after state changes) }
     ensures later { (table later : Table) (state : State) → Holds table state → ((t : List ℕ) → Contains (texts_of state) t → get later (sha256 t) ≡ get table (sha256 t)) → Holds later state }
+{}
+
+/// A table keeps exactly the counted texts where it is changed with the live blocks: at the start it is empty; with a block it keeps what it has and gets the texts that are made; behind a move it has nothing new; and each time it has something under a digest exactly where that is counted then.
+pub fn tables_follow_blocks()
+    ensures start { HoldsCounted empty first_fork }
+    ensures block { (table later : Table) (most : ℕ) (forks : ForkState) (header : Header) (changes : Changes) (prev : State) → IsForkState forks → block_fault most (tree_of_blocks forks) header ≡ None → state_at forks header.prev ≡ Some prev → HoldsCounted table forks → ((digest t : List ℕ) → get table digest ≡ Some t → get later digest ≡ Some t) → ((t : List ℕ) → Contains (made_texts prev changes) t → get later (sha256 t) ≡ Some t) → get later zero_digest ≡ None → ((digest : List ℕ) → contains_key later digest ≡ nat_lt 0 (digest_count (with_block forks header changes) digest)) → HoldsCounted later (with_block forks header changes) }
+    ensures moved { (table later : Table) (forks : ForkState) (id : List ℕ) → IsForkState forks → is_live (tree_of_blocks forks) id ≡ true → HoldsCounted table forks → ((digest t : List ℕ) → get later digest ≡ Some t → get table digest ≡ Some t) → ((digest : List ℕ) → contains_key later digest ≡ nat_lt 0 (digest_count (head_moved forks id) digest)) → HoldsCounted later (head_moved forks id) }
 {}
 
 // ---- texts and digests
