@@ -1,5 +1,5 @@
 -- Where no other text has a text's digest, the digest occurs and is counted as often as the text.
-use Rattle.std.proofs.Common.{◌≡◌, ℕ, ◌+◌, ◌-◌, nat_eq, Bool, true, false, cond, List, ◌∷◌, ◌++◌, Option, None, Some, inl, inr, refl, sym, ◌∙◌, ap, ap₂, subst}
+use Rattle.std.proofs.Common.{Bool, List, None, Option, Some, ap, ap₂, arith, cond, false, inl, inr, nat_eq, refl, subst, suc, sym, true, zero, ℕ, ◌++◌, ◌+◌, ◌-◌, ◌∙◌, ◌∷◌, ◌≡◌}
 use Rattle.std.specs.Option.{option_and_then}
 use Rattle.std.specs.Cmp.Lexicographic.{pointwise}
 use Rattle.std.specs.FinMap.{get}
@@ -13,11 +13,11 @@ use Rattle.change_model.specs.Ledger.{gain, loss}
 use Rattle.fork_model.specs.Trees.{prev_of}
 use Rattle.fork_model.specs.States.{Block, ForkState, IsForkState, state_at, tree_of_blocks}
 use Rattle.fork_model.specs.Laws.{ids_behind}
-use Rattle.fork_model.proofs.Ids.{same-itself, same_from, apart_is}
+use Rattle.fork_model.proofs.Ids.{apart_is, found_not_none, same-itself, same_from}
 use Rattle.count_model.specs.Counts.{Measure, count, counted, digest_count, in_state, of_digest, of_text, rise}
 use Rattle.count_model.specs.Tables.{HoldsCounted, live_texts}
 use Rattle.count_model.proofs.Sums.{sum_by-in}
-use Rattle.count_model.proofs.Live.{block-in, block-of_state, live-in, texts-counted}
+use Rattle.count_model.proofs.Live.{block-in, block-of_state, digests-counted, live-in, texts-counted}
 
 -- no other text of a list has a text's digest
 pub IsAlone : List (List ℕ) → List ℕ → Type 0
@@ -92,3 +92,17 @@ module _ (state : State) (changes : Changes) (t : List ℕ) (clear : NoClash (t 
 
   pub loss-alike : loss state changes (sha256 t) ≡ occurrences state t - occurrences (after state changes) t
   loss-alike = ap₂ (λ (a b : ℕ). a - b) before behind
+
+-- a text under whose digest a table has nothing is not counted, nor is the digest
+pub uncounted : (table : Table) (forks : ForkState) (t : List ℕ) → IsForkState forks → HoldsCounted table forks → get table (sha256 t) ≡ None → (digest_count forks (sha256 t) ≡ 0) × (count forks t ≡ 0)
+uncounted table forks t is holds none = (digest_none (digest_count forks (sha256 t)) refl, text_none (count forks t) refl)
+  where
+    digest_none : (n : ℕ) → digest_count forks (sha256 t) ≡ n → n ≡ 0
+    digest_none zero e = refl
+    digest_none (suc n) e =
+        let live = (digests-counted forks is (sha256 t)).0 (omega (arith, e)) in
+        absurd (found_not_none (holds.found live.0 ((texts-counted forks is live.0).1 live.1)) (ap (get table) live.2 ∙ none))
+
+    text_none : (n : ℕ) → count forks t ≡ n → n ≡ 0
+    text_none zero e = refl
+    text_none (suc n) e = absurd (found_not_none (holds.found t (omega (arith, e))) none)

@@ -28,3 +28,5 @@ pub mod Loaded
 pub mod Different
 -- tables that are changed with the blocks
 pub mod Following
+-- what comes of a block
+pub mod Ends

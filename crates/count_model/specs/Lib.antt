@@ -4,6 +4,8 @@ pub mod Counts
 pub mod Tables
 -- which texts of a block clash
 pub mod Clashes
+-- what comes of a block at its end
+pub mod BlockEnds
 -- how many texts an event of a history loads
 pub mod Loads
 -- counts of digests that are changed entry by entry

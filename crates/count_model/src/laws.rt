@@ -1,6 +1,6 @@
 //! Laws over the definitions, in other words than theirs. A law is proved where its function is: there is nothing to run.
 
-ghost use Rattle.std.specs.Prelude.{◌≡◌, ◌≢◌, ◌+◌, ◌-◌, ◌*◌, ◌^◌, ◌≤◌, ◌↔◌, ◌⊎◌, ℕ, nat_lt, true, false, List, [], ◌∷◌, ◌++◌, length, map, flat_map, Contains, sum_by, None, Some};
+ghost use Rattle.std.specs.Prelude.{◌≡◌, ◌≢◌, ◌+◌, ◌-◌, ◌*◌, ◌^◌, ◌<◌, ◌≤◌, ◌↔◌, ◌⊎◌, ℕ, nat_lt, true, false, List, [], ◌∷◌, ◌++◌, length, map, flat_map, Contains, sum_by, None, Some};
 ghost use Rattle.std.specs.List.{AllByRecursion};
 ghost use Rattle.std.specs.Option.{IsSomeAnd};
 ghost use Rattle.std.specs.FinMap.{contains_key, empty, entries, get, len};
@@ -18,9 +18,11 @@ ghost use Rattle.change_model.specs.Ledger.{gain, loss, made_texts};
 ghost use Rattle.change_model.specs.Places.{touched_places};
 ghost use Rattle.change_model.specs.Tables.{HoldsPlaces};
 ghost use Rattle.change_model.specs.Visits.{batch_visits};
-ghost use Rattle.fork_model.specs.Trees.{Header, block_fault, dropped, is_live, passed};
+ghost use Rattle.fork_model.specs.Trees.{BlockFault, Header, block_fault, dropped, is_live, passed};
 ghost use Rattle.fork_model.specs.States.{Block, ForkState, IsForkState, block_at, first_fork, head_moved, state_at, tree_of_blocks, with_block};
 ghost use Rattle.count_model.specs.Counts.{Measure, count, counted, digest_count, fall, in_state, of_digest, of_text, rise, taken_away};
+ghost use Rattle.count_model.specs.BlockEnds.{block_end};
+ghost use Rattle.count_model.specs.BlockEnds.BlockEnd.{accepted, clashing, faulty, too_many};
 ghost use Rattle.count_model.specs.Clashes.{clash_with, clash_within, live_clash, made_clash};
 ghost use Rattle.count_model.specs.Laws.{ClashesWith, IsLeast, IsShared};
 ghost use Rattle.count_model.specs.Entries.{Entry, Exceeds, times_of};
@@ -105,13 +107,14 @@ pub fn tables_follow_blocks()
 
 // ---- texts and digests
 
-/// Where no other text has a text's digest, the digest occurs as often as the text, and so it is with gains, losses and counts. So it is for each text of a table that has exactly the counted texts.
+/// Where no other text has a text's digest, the digest occurs as often as the text, and so it is with gains, losses and counts. So it is for each text of a table that has exactly the counted texts, and neither is counted where such a table has nothing under the digest.
 pub fn texts_and_digests_count_alike()
     ensures state { (state : State) (t : List ℕ) → NoClash (t ∷ texts_of state) → digest_occurrences state (sha256 t) ≡ occurrences state t }
     ensures gain { (state : State) (changes : Changes) (t : List ℕ) → NoClash (t ∷ texts_of state ++ texts_of (after state changes)) → gain state changes (sha256 t) ≡ occurrences (after state changes) t - occurrences state t }
     ensures loss { (state : State) (changes : Changes) (t : List ℕ) → NoClash (t ∷ texts_of state ++ texts_of (after state changes)) → loss state changes (sha256 t) ≡ occurrences state t - occurrences (after state changes) t }
     ensures forks { (forks : ForkState) (t : List ℕ) → NoClash (t ∷ live_texts forks) → digest_count forks (sha256 t) ≡ count forks t }
     ensures held { (table : Table) (forks : ForkState) (t : List ℕ) → IsForkState forks → HoldsCounted table forks → get table (sha256 t) ≡ Some t → digest_count forks (sha256 t) ≡ count forks t }
+    ensures unheld { (table : Table) (forks : ForkState) (t : List ℕ) → IsForkState forks → HoldsCounted table forks → get table (sha256 t) ≡ None → (digest_count forks (sha256 t) ≡ 0) × (count forks t ≡ 0) }
 {}
 
 // ---- entry by entry
@@ -178,6 +181,15 @@ pub fn clashes_in_rising_order()
     ensures within { (name : List ℕ → List ℕ) (made texts : List (List ℕ)) → IsStrictlySortedBy (slice_cmp nat_cmp) (map name texts) → ((t : List ℕ) → Contains made t → Contains texts t) → clash_within name made ≡ None }
     ensures none { (name : List ℕ → List ℕ) (held made texts : List (List ℕ)) → ((t : List ℕ) → Contains made t → Contains texts t) → ((t : List ℕ) → Contains texts t → ClashesWith name held (t ∷ []) (name t) → ⊥) → clash_with name held made ≡ None }
     ensures first { (name : List ℕ → List ℕ) (held made done left : List (List ℕ)) (t : List ℕ) → IsStrictlySortedBy (slice_cmp nat_cmp) (map name (done ++ t ∷ left)) → ((u : List ℕ) → Contains made u → Contains (done ++ t ∷ left) u) → Contains made t → ((u : List ℕ) → Contains done u → ClashesWith name held (u ∷ []) (name u) → ⊥) → ClashesWith name held (t ∷ []) (name t) → clash_with name held made ≡ Some (name t) }
+{}
+
+/// What comes of a block, cause by cause.
+pub fn blocks_end_by_their_first_cause()
+    ensures fault { (most_pairs most_blocks : ℕ) (forks : ForkState) (header : Header) (changes : Changes) (fault : BlockFault) → block_fault most_blocks (tree_of_blocks forks) header ≡ Some fault → block_end most_pairs most_blocks forks header changes ≡ faulty fault }
+    ensures made { (most_pairs most_blocks : ℕ) (forks : ForkState) (header : Header) (changes : Changes) (prev : State) → block_fault most_blocks (tree_of_blocks forks) header ≡ None → state_at forks header.prev ≡ Some prev → (digest : List ℕ) → made_clash prev changes ≡ Some digest → block_end most_pairs most_blocks forks header changes ≡ clashing digest }
+    ensures full { (most_pairs most_blocks : ℕ) (forks : ForkState) (header : Header) (changes : Changes) (prev : State) → block_fault most_blocks (tree_of_blocks forks) header ≡ None → state_at forks header.prev ≡ Some prev → made_clash prev changes ≡ None → most_pairs < len (after prev changes) → block_end most_pairs most_blocks forks header changes ≡ too_many }
+    ensures live { (most_pairs most_blocks : ℕ) (forks : ForkState) (header : Header) (changes : Changes) (prev : State) → block_fault most_blocks (tree_of_blocks forks) header ≡ None → state_at forks header.prev ≡ Some prev → made_clash prev changes ≡ None → len (after prev changes) ≤ most_pairs → (digest : List ℕ) → live_clash forks prev changes ≡ Some digest → block_end most_pairs most_blocks forks header changes ≡ clashing digest }
+    ensures accepted { (most_pairs most_blocks : ℕ) (forks : ForkState) (header : Header) (changes : Changes) (prev : State) → block_fault most_blocks (tree_of_blocks forks) header ≡ None → state_at forks header.prev ≡ Some prev → made_clash prev changes ≡ None → len (after prev changes) ≤ most_pairs → live_clash forks prev changes ≡ None → block_end most_pairs most_blocks forks header changes ≡ accepted (after prev changes) }
 {}
 
 // ---- bounds

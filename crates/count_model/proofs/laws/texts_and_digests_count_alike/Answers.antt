@@ -1,6 +1,6 @@
 use Rattle.trie_model.specs.Root.{texts_of}
 use Rattle.count_model.specs.Tables.{live_texts}
-use Rattle.count_model.proofs.Alike.{alone_clear, counts-alike, counts_held, gain-alike, loss-alike, occurs-alike}
+use Rattle.count_model.proofs.Alike.{alone_clear, counts-alike, counts_held, gain-alike, loss-alike, occurs-alike, uncounted}
 use Rattle.count_model.proofs.laws.texts_and_digests_count_alike.Goals as goal
 
 pub returns-clause-state : goal.returns-clause-state
@@ -17,3 +17,6 @@ returns-clause-forks c = λ forks t clear. counts-alike forks t (alone_clear (li
 
 pub returns-clause-held : goal.returns-clause-held
 returns-clause-held c = counts_held
+
+pub returns-clause-unheld : goal.returns-clause-unheld
+returns-clause-unheld c = uncounted
