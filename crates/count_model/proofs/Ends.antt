@@ -1,6 +1,6 @@
 -- What comes of a block, cause by cause.
-use Rattle.std.proofs.Common.{◌≡◌, ℕ, ◌<◌, ◌≤◌, nat_lt, Bool, true, false, cond, List, Option, None, Some, refl, sym, ◌∙◌, ap, ap₂, arith}
-use Rattle.std.specs.FinMap.{entries, len, len-entries}
+use Rattle.std.proofs.Common.{◌≡◌, ℕ, ◌<◌, ◌≤◌, nat_lt, true, false, cond, List, None, Some, ◌∙◌, ap, ap₂, arith}
+use Rattle.std.specs.FinMap.{len}
 use Rattle.std.proofs.lemmas.Bool.Decides.{nat_tests}
 use Rattle.trie_model.specs.State.{State}
 use Rattle.batch_model.specs.Changes.{Changes, after}

@@ -11,9 +11,10 @@ use Rattle.trie_model.proofs.Worked.{Pair, rows_of_pairs, texts_of-empty}
 use Rattle.byte_model.specs.Nibbles.{nibbles}
 use Rattle.trie_model.specs.Texts.{places}
 use Rattle.batch_model.specs.Changes.{Change, Changes, after, after_each}
+use Rattle.change_model.specs.Ledger.{made_texts}
 use Rattle.change_model.specs.Places.{above, all_stand_below, is_branch, is_touched, leads_to, remains_alone, touched_places}
 use Rattle.change_model.specs.Examples.{delete_b}
-use Rattle.change_model.proofs.Worked.{laid, paths_of, subtree_of, texts_in, touched_of, touched-told, worked}
+use Rattle.change_model.proofs.Worked.{laid, paths_of, subtree_of, made_of, made-told, texts_in, touched_of, touched-told, worked}
 use Rattle.fork_model.proofs.Worked.{all_of_forks}
 use Rattle.count_model.specs.Counts.{rise, counted}
 use Rattle.count_model.specs.Tables.{different, live_texts}
@@ -137,3 +138,12 @@ batch-told state pairs changes n e sorted rising is =
 -- The usage takes one text, where there are pairs.
 pub usage-told : (state : State) (pairs : List Pair) (n : ℕ) → entries state ≡ pairs → cond (length pairs == 0) 0 1 ≡ n → usage_loads state ≡ n
 usage-told state pairs n e is = ap (λ m. cond (m == 0) 0 1) (len-entries state ∙ ap length e) ∙ is
+
+-- ---- clashes
+
+-- what a batch makes is told by the pairs of its state
+pub made-pairs : (state : State) (pairs : List Pair) (changes : List Change) → entries state ≡ pairs → T (is_sorted (slice_cmp nat_cmp) pairs) → T (is_sorted (slice_cmp nat_cmp) changes) → made_texts state (from_sorted changes) ≡ made_of pairs (laid pairs changes) changes
+made-pairs state pairs changes e sorted rising =
+    made-told state (from_sorted changes)
+    ∙ ap (λ cs. made_of (entries state) (entries (after state (from_sorted changes))) cs) (entries-from_sorted (slice_cmp nat_cmp) changes rising)
+    ∙ ap₂ (λ ps later. made_of ps later changes) e (entries-laid state pairs changes e sorted rising)

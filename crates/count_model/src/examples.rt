@@ -1,11 +1,16 @@
 //! Worked histories: how often each text of the live blocks is counted, before and after a move of the head, what is loaded, and names that texts share. The numbers were computed outside of this project.
 
 ghost use Rattle.std.specs.Prelude.{◌≡◌, [], ◌∷◌, map, None, Some};
+ghost use Rattle.std.specs.FinMap.{empty};
 ghost use Rattle.sha2.specs.Sha256.{sha256};
 ghost use Rattle.trie_model.specs.Root.{zero_digest};
+ghost use Rattle.batch_model.specs.Changes.{after};
 ghost use Rattle.change_model.specs.Examples.{delete_b};
 ghost use Rattle.fork_model.specs.States.{after_head, first_fork};
 ghost use Rattle.fork_model.specs.Examples.{header_of, id_of, many};
+ghost use Rattle.fork_model.specs.Trees.BlockFault.{full, not_higher};
+ghost use Rattle.count_model.specs.BlockEnds.{block_end};
+ghost use Rattle.count_model.specs.BlockEnds.BlockEnd.{accepted, faulty, too_many};
 ghost use Rattle.count_model.specs.Counts.{count, digest_count};
 ghost use Rattle.count_model.specs.Tables.{distinct_texts, live_texts};
 ghost use Rattle.count_model.specs.Clashes.{clash_with, clash_within};
@@ -57,4 +62,12 @@ pub fn names_that_are_shared()
     ensures zero_with { clash_with first_byte [] ([] ∷ (4 ∷ []) ∷ []) ≡ Some zero_digest }
     ensures held { clash_with first_byte ((5 ∷ 1 ∷ []) ∷ (4 ∷ 3 ∷ []) ∷ []) ((5 ∷ 2 ∷ []) ∷ (4 ∷ 3 ∷ []) ∷ []) ≡ Some (5 ∷ []) }
     ensures no_clash { clash_with first_byte ((5 ∷ 1 ∷ []) ∷ []) ((5 ∷ 1 ∷ []) ∷ (4 ∷ 3 ∷ []) ∷ (4 ∷ 2 ∷ []) ∷ []) ≡ None }
+{}
+
+/// A block that sets two keys over the start is accepted where a state may have two pairs, and refused where it may have one, unless it is refused for its height or because no further block may be live.
+pub fn ends_of_blocks()
+    ensures taken { block_end 2 many first_fork (header_of 1 0 1) set_two ≡ accepted (after empty set_two) }
+    ensures pairs { block_end 1 many first_fork (header_of 1 0 1) set_two ≡ too_many }
+    ensures height { block_end 1 many first_fork (header_of 1 0 0) set_two ≡ faulty not_higher }
+    ensures blocks { block_end 1 1 first_fork (header_of 1 0 1) set_two ≡ faulty full }
 {}
