@@ -23,3 +23,9 @@ pub use errors::UpdateError;
 
 #[cfg(test)]
 mod balance_tests;
+#[cfg(test)]
+mod ledger_tests;
+#[cfg(test)]
+mod nested_tests;
+#[cfg(test)]
+mod tests;

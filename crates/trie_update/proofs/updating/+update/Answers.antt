@@ -769,4 +769,3 @@ at_nibbles-loop-nibble-preserved g t c =
     let place = c.behind-place.ensures.place now c.args.depth c.requires.parent ∙ ap (λ t. place_behind t c.args.depth c.args.parent.now c.loop-nibble.nibble) (sym texts) in
     let more = turn-more store c.args.depth ref places c.args.changes.now c.loop-nibble.rest.now c.loop-nibble.nibble c.loop-nibble.children.items c.loop-nibble.stated c.args.store.now c.loop-nibble.store c.args.ledger.now c.loop-nibble.ledger c.loop-nibble.invariant c.split_at.result.0.now c.split_at.result.1.now c.run_length.result c.run_length.ensures c.split_at.ensures.front c.split_at.ensures.back now c.behind-place.result place c.at_former.new.store c.at_former.new.ledger (c.in_ok-child.child, c.in_ok-child.used) c.in_ok-child.ensures.child g.met.T.Texts.alike_onward c.in_ok-child.ensures.carries c.push.new.children.items c.in_ok-push.ensures.items c.loop-nibble-test.true in
     subst (λ n. IsGathered store c.args.depth ref places c.args.changes.now c.split_at.result.1.now (c.loop-nibble.nibble + 1) c.push.new.children.items n c.args.store.now c.at_former.new.store c.args.ledger.now c.at_former.new.ledger) (sym c.saturating_add-stated.ensures) more
-
