@@ -28,4 +28,6 @@ mod ledger_tests;
 #[cfg(test)]
 mod nested_tests;
 #[cfg(test)]
+mod stranger_tests;
+#[cfg(test)]
 mod tests;
