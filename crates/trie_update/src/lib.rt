@@ -28,6 +28,8 @@ mod ledger_tests;
 #[cfg(test)]
 mod nested_tests;
 #[cfg(test)]
+mod seeded_tests;
+#[cfg(test)]
 mod stranger_tests;
 #[cfg(test)]
 mod tests;
