@@ -43,8 +43,11 @@ use Rattle.trie_update.specs.Placed.{IsPlaced, branch_inside, run_at}
 use Rattle.trie_update.proofs.Adding.{adds-lost, adds-same, adds-then}
 use Rattle.trie_update.proofs.Carrying.{carries-opened, carries-short, carries-then, opens-changed}
 use Rattle.trie_update.proofs.OneNibble.{none-before}
-use Rattle.trie_update.proofs.SeenVisits.{SeesCopy, SeesLeaf, SeesExtension, SeesBranch}
+use Rattle.trie_update.specs.Visiting.{AnswersVisit}
+use Rattle.trie_update.proofs.SeenVisits.{SeesCopy, SeesLeaf, SeesExtension, SeesBranch, sees-visited}
+use Rattle.trie_update.specs.ChangesAt.{AreChangesAt, Lent}
 use Rattle.trie_update.proofs.AloneVisits.{some_path}
+use Rattle.trie_update.proofs.ChangesAt.{lent-deep}
 
 -- ---- the changes of a call
 
@@ -177,6 +180,19 @@ module _ (table : Table) (depth : ℕ) (after_extension : Bool) (digest : Digest
     visits = ap (λ (s : Seen). visits_at s cs) sees.seen ∙ (opens-changed cs).extension_is digest.0 visited.stated path (seen_at table (depth + length path) true child.0);
     most = sees.most;
   }
+
+-- ---- by what the visit answered, where some keys are changed
+
+module _ (table : Table) (depth : ℕ) (after_extension : Bool) (digest : Digest) (changes : List Lent) (are : AreChangesAt depth changes) (some : 1 ≤ length changes)
+    (visited : Visited) (answer : AnswersVisit table digest depth after_extension (Ok visited)) where
+  pub copy-old : (copy : node.Node) → visited.node ≡ copy → SeesCopy table depth after_extension digest visited copy
+  copy-old copy is = subst (SeesCopy table depth after_extension digest visited) is (sees-visited table depth after_extension digest visited (lent-deep depth changes are some) answer)
+
+  pub leaf-old : (path : Bor (List ℕ)) (text : List ℕ) (value : code.ValueRef) → visited.node ≡ read.Leaf text value → path.now ≡ text → ReadsOld table depth after_extension digest visited (Leaf path value)
+  leaf-old path text value is e = reads-leaf table depth after_extension digest visited path text value e (copy-old (read.Leaf text value) is)
+
+  pub extension-old : (path : Bor (List ℕ)) (text : List ℕ) (child : Digest) (used : ℕ) → visited.node ≡ read.Extension text child → path.now ≡ text → used ≡ visited.stated - visited.own → ReadsOld table depth after_extension digest visited (Extension path child used)
+  extension-old path text child used is e u = reads-extension table depth after_extension digest visited path text child used e u (copy-old (read.Extension text child) is)
 
 pub value-small : (value : Option code.ValueRef) → IfSome (option_map value_of value) (λ r. r.length ≤ longest_value) → IfSome value (λ v. v.length ≤ longest_value)
 value-small None h = tt

@@ -23,3 +23,13 @@ pub use errors::UpdateError;
 
 #[cfg(test)]
 mod balance_tests;
+#[cfg(test)]
+mod ledger_tests;
+#[cfg(test)]
+mod nested_tests;
+#[cfg(test)]
+mod seeded_tests;
+#[cfg(test)]
+mod stranger_tests;
+#[cfg(test)]
+mod tests;

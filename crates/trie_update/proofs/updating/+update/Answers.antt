@@ -30,8 +30,8 @@ use Rattle.trie_update.specs.Merges.{CanSettle, MergedStands, lone_named, seen_k
 use Rattle.trie_update.specs.Subs.{kid_at, top_of_sub}
 use Rattle.trie_update.proofs.BranchCalls.{branch-carries, branch-keeps, branch-placed, branch-places, branch-settles, branch-stopped, small-mapped}
 use Rattle.trie_update.specs.declared.old.Old.TheVariants as old
-use Rattle.trie_update.proofs.Digests.{lose-named, lose-room, old-carries, old-keeps, old-placed, opened-short, opens-first, reads-extension, reads-leaf, value-small, visited-carries, visited-children, visited-keeps, visited-placed}
-use Rattle.trie_update.proofs.SeenVisits.{SeesBranch, SeesCopy, sees-visited}
+use Rattle.trie_update.proofs.Digests.{copy-old, extension-old, leaf-old, lose-named, lose-room, old-carries, old-keeps, old-placed, opened-short, opens-first, value-small, visited-carries, visited-children, visited-keeps, visited-placed}
+use Rattle.trie_update.proofs.SeenVisits.{SeesBranch, sees-visited}
 use Rattle.trie_update.proofs.updating.+update.Goals as goal
 use Rattle.trie_update.proofs.ChangesAt.{changes-some, lent-deep, length-changes_at}
 
@@ -223,274 +223,83 @@ at_digest-returns-in_err-lose-clause-carries g t c =
 pub at_digest-at_old-requires : goal.at_digest-at_old-requires
 at_digest-at_old-requires g t c =
     let store = g.T.Texts.store in
-    let first = c.args.store.now in
-    let mid = c.visit.new.store in
-    let table = store.texts first in
-    let depth = c.args.depth in
-    let after = c.args.after_extension in
-    let digest = c.args.digest.now in
-    let cs = changes_at depth c.args.changes.now in
-    let deep = lent-deep depth c.args.changes.now c.requires.changes c.requires.some in
-    let visited = c.in_ok-node.field-0 in
-    let left = c.in_ok-node.ensures.left in
-    let sees = sees-visited table depth after digest visited deep c.in_ok-node.ensures.answer in
-    let here = subst (SeesCopy table depth after digest visited) c.in-Leaf.is sees in
-    let o = old.Leaf c.as_slice.result c.in-Leaf.value in
-    let reads = reads-leaf table depth after digest visited c.as_slice.result c.in-Leaf.path c.in-Leaf.value c.as_slice.ensures here in
-    let loses = c.in_ok-lose.ensures.loses in
-    λ κs h. (search rules, (h, (c.requires.changes, (c.requires.some, (c.requires.few, (lose-room c.args.ledger.now c.lose.new.self digest _ loses c.requires.room, (lose-named c.args.ledger.now c.lose.new.self digest loses c.requires.named, (reads.reads.fits, reads.most))))))))
+    let here = copy-old (store.texts c.args.store.now) c.args.depth c.args.after_extension c.args.digest.now c.args.changes.now c.requires.changes c.requires.some c.in_ok-node.field-0 c.in_ok-node.ensures.answer _ c.in-Leaf.is in
+    let reads = leaf-old (store.texts c.args.store.now) c.args.depth c.args.after_extension c.args.digest.now c.args.changes.now c.requires.changes c.requires.some c.in_ok-node.field-0 c.in_ok-node.ensures.answer c.as_slice.result c.in-Leaf.path c.in-Leaf.value c.in-Leaf.is c.as_slice.ensures in
+    λ κs h. (search rules, (h, (c.requires.changes, (c.requires.some, (c.requires.few, (lose-room c.args.ledger.now c.lose.new.self c.args.digest.now _ c.in_ok-lose.ensures.loses c.requires.room, (lose-named c.args.ledger.now c.lose.new.self c.args.digest.now c.in_ok-lose.ensures.loses c.requires.named, (reads.reads.fits, reads.most))))))))
 
 pub at_digest-at_old-requires-in-Extension : goal.at_digest-at_old-requires-in-Extension
 at_digest-at_old-requires-in-Extension g t c =
     let store = g.T.Texts.store in
-    let first = c.args.store.now in
-    let mid = c.visit.new.store in
-    let table = store.texts first in
-    let depth = c.args.depth in
-    let after = c.args.after_extension in
-    let digest = c.args.digest.now in
-    let cs = changes_at depth c.args.changes.now in
-    let deep = lent-deep depth c.args.changes.now c.requires.changes c.requires.some in
-    let visited = c.in_ok-node.field-0 in
-    let left = c.in_ok-node.ensures.left in
-    let sees = sees-visited table depth after digest visited deep c.in_ok-node.ensures.answer in
-    let here = subst (SeesCopy table depth after digest visited) c.in-Extension.is sees in
-    let o = old.Extension c.as_slice-in-Extension.result c.in-Extension.child c.saturating_sub.result in
-    let reads = reads-extension table depth after digest visited c.as_slice-in-Extension.result c.in-Extension.path c.in-Extension.child c.saturating_sub.result c.as_slice-in-Extension.ensures c.saturating_sub.ensures here in
-    let loses = c.in_ok-lose.ensures.loses in
-    λ κs h. (search rules, (h, (c.requires.changes, (c.requires.some, (c.requires.few, (lose-room c.args.ledger.now c.lose.new.self digest _ loses c.requires.room, (lose-named c.args.ledger.now c.lose.new.self digest loses c.requires.named, (reads.reads.fits, reads.most))))))))
+    let here = copy-old (store.texts c.args.store.now) c.args.depth c.args.after_extension c.args.digest.now c.args.changes.now c.requires.changes c.requires.some c.in_ok-node.field-0 c.in_ok-node.ensures.answer _ c.in-Extension.is in
+    let reads = extension-old (store.texts c.args.store.now) c.args.depth c.args.after_extension c.args.digest.now c.args.changes.now c.requires.changes c.requires.some c.in_ok-node.field-0 c.in_ok-node.ensures.answer c.as_slice-in-Extension.result c.in-Extension.path c.in-Extension.child c.saturating_sub.result c.in-Extension.is c.as_slice-in-Extension.ensures c.saturating_sub.ensures in
+    λ κs h. (search rules, (h, (c.requires.changes, (c.requires.some, (c.requires.few, (lose-room c.args.ledger.now c.lose.new.self c.args.digest.now _ c.in_ok-lose.ensures.loses c.requires.room, (lose-named c.args.ledger.now c.lose.new.self c.args.digest.now c.in_ok-lose.ensures.loses c.requires.named, (reads.reads.fits, reads.most))))))))
 
 pub at_digest-at_branch-requires : goal.at_digest-at_branch-requires
 at_digest-at_branch-requires g t c =
     let store = g.T.Texts.store in
-    let first = c.args.store.now in
-    let mid = c.visit.new.store in
-    let table = store.texts first in
-    let depth = c.args.depth in
-    let after = c.args.after_extension in
-    let digest = c.args.digest.now in
-    let cs = changes_at depth c.args.changes.now in
-    let deep = lent-deep depth c.args.changes.now c.requires.changes c.requires.some in
-    let visited = c.in_ok-node.field-0 in
-    let left = c.in_ok-node.ensures.left in
-    let sees = sees-visited table depth after digest visited deep c.in_ok-node.ensures.answer in
-    let ref = option_map value_of c.in-Branch.value in
-    let kids = children_in c.deref.result.now in
-    let here = subst (λ k. SeesBranch table depth after digest visited ref (children_in k)) (sym c.deref.ensures) (subst (SeesCopy table depth after digest visited) c.in-Branch.is sees) in
-    let loses = c.in_ok-lose.ensures.loses in
-    λ κs h. (search rules, (h, (c.requires.changes, (c.requires.some, (c.requires.few, (lose-room c.args.ledger.now c.lose.new.self digest _ loses c.requires.room, (lose-named c.args.ledger.now c.lose.new.self digest loses c.requires.named, (here.room, (here.most, (here.own, value-small c.in-Branch.value here.small))))))))))
+    let copy = copy-old (store.texts c.args.store.now) c.args.depth c.args.after_extension c.args.digest.now c.args.changes.now c.requires.changes c.requires.some c.in_ok-node.field-0 c.in_ok-node.ensures.answer _ c.in-Branch.is in
+    let sees = subst (λ kids. SeesBranch (store.texts c.args.store.now) c.args.depth c.args.after_extension c.args.digest.now c.in_ok-node.field-0 (option_map value_of c.in-Branch.value) (children_in kids)) (sym c.deref.ensures) copy in
+    λ κs h. (search rules, (h, (c.requires.changes, (c.requires.some, (c.requires.few, (lose-room c.args.ledger.now c.lose.new.self c.args.digest.now _ c.in_ok-lose.ensures.loses c.requires.room, (lose-named c.args.ledger.now c.lose.new.self c.args.digest.now c.in_ok-lose.ensures.loses c.requires.named, (sees.room, (sees.most, (sees.own, value-small c.in-Branch.value sees.small))))))))))
 
 pub at_digest-returns-in-Leaf-clause-carries : goal.at_digest-returns-in-Leaf-clause-carries
 at_digest-returns-in-Leaf-clause-carries g t c =
     let store = g.T.Texts.store in
-    let first = c.args.store.now in
-    let mid = c.visit.new.store in
-    let table = store.texts first in
-    let depth = c.args.depth in
-    let after = c.args.after_extension in
-    let digest = c.args.digest.now in
-    let cs = changes_at depth c.args.changes.now in
-    let deep = lent-deep depth c.args.changes.now c.requires.changes c.requires.some in
-    let visited = c.in_ok-node.field-0 in
-    let left = c.in_ok-node.ensures.left in
-    let sees = sees-visited table depth after digest visited deep c.in_ok-node.ensures.answer in
-    let onward = g.met.T.Texts.alike_onward in
-    let same = g.met.T.Texts.alike_texts first mid left.same in
-    let here = subst (SeesCopy table depth after digest visited) c.in-Leaf.is sees in
-    let o = old.Leaf c.as_slice.result c.in-Leaf.value in
-    let reads = reads-leaf table depth after digest visited c.as_slice.result c.in-Leaf.path c.in-Leaf.value c.as_slice.ensures here in
-    let new = c.at_old.new.store in
-    let result = c.at_old.result in
-    old-carries store onward first mid new same depth after digest visited left o reads cs result c.at_old.ensures.carries
+    let reads = leaf-old (store.texts c.args.store.now) c.args.depth c.args.after_extension c.args.digest.now c.args.changes.now c.requires.changes c.requires.some c.in_ok-node.field-0 c.in_ok-node.ensures.answer c.as_slice.result c.in-Leaf.path c.in-Leaf.value c.in-Leaf.is c.as_slice.ensures in
+    old-carries store g.met.T.Texts.alike_onward c.args.store.now c.visit.new.store c.at_old.new.store (g.met.T.Texts.alike_texts c.args.store.now c.visit.new.store c.in_ok-node.ensures.left.same) c.args.depth c.args.after_extension c.args.digest.now c.in_ok-node.field-0 c.in_ok-node.ensures.left _ reads (changes_at c.args.depth c.args.changes.now) c.at_old.result c.at_old.ensures.carries
 
 pub at_digest-returns-in-Leaf-clause-placed : goal.at_digest-returns-in-Leaf-clause-placed
 at_digest-returns-in-Leaf-clause-placed g t c =
     let store = g.T.Texts.store in
-    let first = c.args.store.now in
-    let mid = c.visit.new.store in
-    let table = store.texts first in
-    let depth = c.args.depth in
-    let after = c.args.after_extension in
-    let digest = c.args.digest.now in
-    let cs = changes_at depth c.args.changes.now in
-    let deep = lent-deep depth c.args.changes.now c.requires.changes c.requires.some in
-    let visited = c.in_ok-node.field-0 in
-    let left = c.in_ok-node.ensures.left in
-    let sees = sees-visited table depth after digest visited deep c.in_ok-node.ensures.answer in
-    let onward = g.met.T.Texts.alike_onward in
-    let same = g.met.T.Texts.alike_texts first mid left.same in
-    let here = subst (SeesCopy table depth after digest visited) c.in-Leaf.is sees in
-    let o = old.Leaf c.as_slice.result c.in-Leaf.value in
-    let reads = reads-leaf table depth after digest visited c.as_slice.result c.in-Leaf.path c.in-Leaf.value c.as_slice.ensures here in
-    let new = c.at_old.new.store in
-    let result = c.at_old.result in
-    old-placed store onward first mid new same depth after digest visited left o reads cs result c.args.ledger.now c.lose.new.self c.at_old.new.ledger _ (changes-some depth c.args.changes.now c.requires.some) c.in_ok-lose.ensures.loses c.at_old.ensures.placed
+    let reads = leaf-old (store.texts c.args.store.now) c.args.depth c.args.after_extension c.args.digest.now c.args.changes.now c.requires.changes c.requires.some c.in_ok-node.field-0 c.in_ok-node.ensures.answer c.as_slice.result c.in-Leaf.path c.in-Leaf.value c.in-Leaf.is c.as_slice.ensures in
+    old-placed store g.met.T.Texts.alike_onward c.args.store.now c.visit.new.store c.at_old.new.store (g.met.T.Texts.alike_texts c.args.store.now c.visit.new.store c.in_ok-node.ensures.left.same) c.args.depth c.args.after_extension c.args.digest.now c.in_ok-node.field-0 c.in_ok-node.ensures.left _ reads (changes_at c.args.depth c.args.changes.now) c.at_old.result c.args.ledger.now c.lose.new.self c.at_old.new.ledger _ (changes-some c.args.depth c.args.changes.now c.requires.some) c.in_ok-lose.ensures.loses c.at_old.ensures.placed
 
 pub at_digest-returns-in-Leaf-clause-keeps : goal.at_digest-returns-in-Leaf-clause-keeps
 at_digest-returns-in-Leaf-clause-keeps g t c =
     let store = g.T.Texts.store in
-    let first = c.args.store.now in
-    let mid = c.visit.new.store in
-    let table = store.texts first in
-    let depth = c.args.depth in
-    let after = c.args.after_extension in
-    let digest = c.args.digest.now in
-    let cs = changes_at depth c.args.changes.now in
-    let deep = lent-deep depth c.args.changes.now c.requires.changes c.requires.some in
-    let visited = c.in_ok-node.field-0 in
-    let left = c.in_ok-node.ensures.left in
-    let sees = sees-visited table depth after digest visited deep c.in_ok-node.ensures.answer in
-    let onward = g.met.T.Texts.alike_onward in
-    let same = g.met.T.Texts.alike_texts first mid left.same in
-    let here = subst (SeesCopy table depth after digest visited) c.in-Leaf.is sees in
-    let o = old.Leaf c.as_slice.result c.in-Leaf.value in
-    let reads = reads-leaf table depth after digest visited c.as_slice.result c.in-Leaf.path c.in-Leaf.value c.as_slice.ensures here in
-    let new = c.at_old.new.store in
-    let result = c.at_old.result in
-    let carries = old-carries store onward first mid new same depth after digest visited left o reads cs result c.at_old.ensures.carries in
-    old-keeps store onward first mid new same depth after digest visited left o reads cs (below-changes_at depth c.args.changes.now c.requires.changes) (changes-some depth c.args.changes.now c.requires.some) result carries c.at_old.ensures.keeps
+    let reads = leaf-old (store.texts c.args.store.now) c.args.depth c.args.after_extension c.args.digest.now c.args.changes.now c.requires.changes c.requires.some c.in_ok-node.field-0 c.in_ok-node.ensures.answer c.as_slice.result c.in-Leaf.path c.in-Leaf.value c.in-Leaf.is c.as_slice.ensures in
+    old-keeps store g.met.T.Texts.alike_onward c.args.store.now c.visit.new.store c.at_old.new.store (g.met.T.Texts.alike_texts c.args.store.now c.visit.new.store c.in_ok-node.ensures.left.same) c.args.depth c.args.after_extension c.args.digest.now c.in_ok-node.field-0 c.in_ok-node.ensures.left _ reads (changes_at c.args.depth c.args.changes.now) (below-changes_at c.args.depth c.args.changes.now c.requires.changes) (changes-some c.args.depth c.args.changes.now c.requires.some) c.at_old.result (old-carries store g.met.T.Texts.alike_onward c.args.store.now c.visit.new.store c.at_old.new.store (g.met.T.Texts.alike_texts c.args.store.now c.visit.new.store c.in_ok-node.ensures.left.same) c.args.depth c.args.after_extension c.args.digest.now c.in_ok-node.field-0 c.in_ok-node.ensures.left _ reads (changes_at c.args.depth c.args.changes.now) c.at_old.result c.at_old.ensures.carries) c.at_old.ensures.keeps
 
 pub at_digest-returns-in-Extension-clause-carries : goal.at_digest-returns-in-Extension-clause-carries
 at_digest-returns-in-Extension-clause-carries g t c =
     let store = g.T.Texts.store in
-    let first = c.args.store.now in
-    let mid = c.visit.new.store in
-    let table = store.texts first in
-    let depth = c.args.depth in
-    let after = c.args.after_extension in
-    let digest = c.args.digest.now in
-    let cs = changes_at depth c.args.changes.now in
-    let deep = lent-deep depth c.args.changes.now c.requires.changes c.requires.some in
-    let visited = c.in_ok-node.field-0 in
-    let left = c.in_ok-node.ensures.left in
-    let sees = sees-visited table depth after digest visited deep c.in_ok-node.ensures.answer in
-    let onward = g.met.T.Texts.alike_onward in
-    let same = g.met.T.Texts.alike_texts first mid left.same in
-    let here = subst (SeesCopy table depth after digest visited) c.in-Extension.is sees in
-    let o = old.Extension c.as_slice-in-Extension.result c.in-Extension.child c.saturating_sub.result in
-    let reads = reads-extension table depth after digest visited c.as_slice-in-Extension.result c.in-Extension.path c.in-Extension.child c.saturating_sub.result c.as_slice-in-Extension.ensures c.saturating_sub.ensures here in
-    let new = c.at_old-in-Extension.new.store in
-    let result = c.at_old-in-Extension.result in
-    old-carries store onward first mid new same depth after digest visited left o reads cs result c.at_old-in-Extension.ensures.carries
+    let reads = extension-old (store.texts c.args.store.now) c.args.depth c.args.after_extension c.args.digest.now c.args.changes.now c.requires.changes c.requires.some c.in_ok-node.field-0 c.in_ok-node.ensures.answer c.as_slice-in-Extension.result c.in-Extension.path c.in-Extension.child c.saturating_sub.result c.in-Extension.is c.as_slice-in-Extension.ensures c.saturating_sub.ensures in
+    old-carries store g.met.T.Texts.alike_onward c.args.store.now c.visit.new.store c.at_old-in-Extension.new.store (g.met.T.Texts.alike_texts c.args.store.now c.visit.new.store c.in_ok-node.ensures.left.same) c.args.depth c.args.after_extension c.args.digest.now c.in_ok-node.field-0 c.in_ok-node.ensures.left _ reads (changes_at c.args.depth c.args.changes.now) c.at_old-in-Extension.result c.at_old-in-Extension.ensures.carries
 
 pub at_digest-returns-in-Extension-clause-placed : goal.at_digest-returns-in-Extension-clause-placed
 at_digest-returns-in-Extension-clause-placed g t c =
     let store = g.T.Texts.store in
-    let first = c.args.store.now in
-    let mid = c.visit.new.store in
-    let table = store.texts first in
-    let depth = c.args.depth in
-    let after = c.args.after_extension in
-    let digest = c.args.digest.now in
-    let cs = changes_at depth c.args.changes.now in
-    let deep = lent-deep depth c.args.changes.now c.requires.changes c.requires.some in
-    let visited = c.in_ok-node.field-0 in
-    let left = c.in_ok-node.ensures.left in
-    let sees = sees-visited table depth after digest visited deep c.in_ok-node.ensures.answer in
-    let onward = g.met.T.Texts.alike_onward in
-    let same = g.met.T.Texts.alike_texts first mid left.same in
-    let here = subst (SeesCopy table depth after digest visited) c.in-Extension.is sees in
-    let o = old.Extension c.as_slice-in-Extension.result c.in-Extension.child c.saturating_sub.result in
-    let reads = reads-extension table depth after digest visited c.as_slice-in-Extension.result c.in-Extension.path c.in-Extension.child c.saturating_sub.result c.as_slice-in-Extension.ensures c.saturating_sub.ensures here in
-    let new = c.at_old-in-Extension.new.store in
-    let result = c.at_old-in-Extension.result in
-    old-placed store onward first mid new same depth after digest visited left o reads cs result c.args.ledger.now c.lose.new.self c.at_old-in-Extension.new.ledger _ (changes-some depth c.args.changes.now c.requires.some) c.in_ok-lose.ensures.loses c.at_old-in-Extension.ensures.placed
+    let reads = extension-old (store.texts c.args.store.now) c.args.depth c.args.after_extension c.args.digest.now c.args.changes.now c.requires.changes c.requires.some c.in_ok-node.field-0 c.in_ok-node.ensures.answer c.as_slice-in-Extension.result c.in-Extension.path c.in-Extension.child c.saturating_sub.result c.in-Extension.is c.as_slice-in-Extension.ensures c.saturating_sub.ensures in
+    old-placed store g.met.T.Texts.alike_onward c.args.store.now c.visit.new.store c.at_old-in-Extension.new.store (g.met.T.Texts.alike_texts c.args.store.now c.visit.new.store c.in_ok-node.ensures.left.same) c.args.depth c.args.after_extension c.args.digest.now c.in_ok-node.field-0 c.in_ok-node.ensures.left _ reads (changes_at c.args.depth c.args.changes.now) c.at_old-in-Extension.result c.args.ledger.now c.lose.new.self c.at_old-in-Extension.new.ledger _ (changes-some c.args.depth c.args.changes.now c.requires.some) c.in_ok-lose.ensures.loses c.at_old-in-Extension.ensures.placed
 
 pub at_digest-returns-in-Extension-clause-keeps : goal.at_digest-returns-in-Extension-clause-keeps
 at_digest-returns-in-Extension-clause-keeps g t c =
     let store = g.T.Texts.store in
-    let first = c.args.store.now in
-    let mid = c.visit.new.store in
-    let table = store.texts first in
-    let depth = c.args.depth in
-    let after = c.args.after_extension in
-    let digest = c.args.digest.now in
-    let cs = changes_at depth c.args.changes.now in
-    let deep = lent-deep depth c.args.changes.now c.requires.changes c.requires.some in
-    let visited = c.in_ok-node.field-0 in
-    let left = c.in_ok-node.ensures.left in
-    let sees = sees-visited table depth after digest visited deep c.in_ok-node.ensures.answer in
-    let onward = g.met.T.Texts.alike_onward in
-    let same = g.met.T.Texts.alike_texts first mid left.same in
-    let here = subst (SeesCopy table depth after digest visited) c.in-Extension.is sees in
-    let o = old.Extension c.as_slice-in-Extension.result c.in-Extension.child c.saturating_sub.result in
-    let reads = reads-extension table depth after digest visited c.as_slice-in-Extension.result c.in-Extension.path c.in-Extension.child c.saturating_sub.result c.as_slice-in-Extension.ensures c.saturating_sub.ensures here in
-    let new = c.at_old-in-Extension.new.store in
-    let result = c.at_old-in-Extension.result in
-    let carries = old-carries store onward first mid new same depth after digest visited left o reads cs result c.at_old-in-Extension.ensures.carries in
-    old-keeps store onward first mid new same depth after digest visited left o reads cs (below-changes_at depth c.args.changes.now c.requires.changes) (changes-some depth c.args.changes.now c.requires.some) result carries c.at_old-in-Extension.ensures.keeps
+    let reads = extension-old (store.texts c.args.store.now) c.args.depth c.args.after_extension c.args.digest.now c.args.changes.now c.requires.changes c.requires.some c.in_ok-node.field-0 c.in_ok-node.ensures.answer c.as_slice-in-Extension.result c.in-Extension.path c.in-Extension.child c.saturating_sub.result c.in-Extension.is c.as_slice-in-Extension.ensures c.saturating_sub.ensures in
+    old-keeps store g.met.T.Texts.alike_onward c.args.store.now c.visit.new.store c.at_old-in-Extension.new.store (g.met.T.Texts.alike_texts c.args.store.now c.visit.new.store c.in_ok-node.ensures.left.same) c.args.depth c.args.after_extension c.args.digest.now c.in_ok-node.field-0 c.in_ok-node.ensures.left _ reads (changes_at c.args.depth c.args.changes.now) (below-changes_at c.args.depth c.args.changes.now c.requires.changes) (changes-some c.args.depth c.args.changes.now c.requires.some) c.at_old-in-Extension.result (old-carries store g.met.T.Texts.alike_onward c.args.store.now c.visit.new.store c.at_old-in-Extension.new.store (g.met.T.Texts.alike_texts c.args.store.now c.visit.new.store c.in_ok-node.ensures.left.same) c.args.depth c.args.after_extension c.args.digest.now c.in_ok-node.field-0 c.in_ok-node.ensures.left _ reads (changes_at c.args.depth c.args.changes.now) c.at_old-in-Extension.result c.at_old-in-Extension.ensures.carries) c.at_old-in-Extension.ensures.keeps
 
 pub at_digest-returns-in-Branch-clause-carries : goal.at_digest-returns-in-Branch-clause-carries
 at_digest-returns-in-Branch-clause-carries g t c =
     let store = g.T.Texts.store in
-    let first = c.args.store.now in
-    let mid = c.visit.new.store in
-    let table = store.texts first in
-    let depth = c.args.depth in
-    let after = c.args.after_extension in
-    let digest = c.args.digest.now in
-    let cs = changes_at depth c.args.changes.now in
-    let deep = lent-deep depth c.args.changes.now c.requires.changes c.requires.some in
-    let visited = c.in_ok-node.field-0 in
-    let left = c.in_ok-node.ensures.left in
-    let sees = sees-visited table depth after digest visited deep c.in_ok-node.ensures.answer in
-    let onward = g.met.T.Texts.alike_onward in
-    let same = g.met.T.Texts.alike_texts first mid left.same in
-    let ref = option_map value_of c.in-Branch.value in
-    let kids = children_in c.deref.result.now in
-    let here = subst (λ k. SeesBranch table depth after digest visited ref (children_in k)) (sym c.deref.ensures) (subst (SeesCopy table depth after digest visited) c.in-Branch.is sees) in
-    let new = c.at_branch.new.store in
-    let result = c.at_branch.result in
-    let children = visited-children store onward first mid new same depth after digest visited left ref kids here cs result in
-    visited-carries store onward first mid new same depth after digest visited left ref kids here cs result (c.at_branch.ensures.carries here.below children)
+    let copy = copy-old (store.texts c.args.store.now) c.args.depth c.args.after_extension c.args.digest.now c.args.changes.now c.requires.changes c.requires.some c.in_ok-node.field-0 c.in_ok-node.ensures.answer _ c.in-Branch.is in
+    let sees = subst (λ kids. SeesBranch (store.texts c.args.store.now) c.args.depth c.args.after_extension c.args.digest.now c.in_ok-node.field-0 (option_map value_of c.in-Branch.value) (children_in kids)) (sym c.deref.ensures) copy in
+    let children = visited-children store g.met.T.Texts.alike_onward c.args.store.now c.visit.new.store c.at_branch.new.store (g.met.T.Texts.alike_texts c.args.store.now c.visit.new.store c.in_ok-node.ensures.left.same) c.args.depth c.args.after_extension c.args.digest.now c.in_ok-node.field-0 c.in_ok-node.ensures.left (option_map value_of c.in-Branch.value) (children_in c.deref.result.now) sees (changes_at c.args.depth c.args.changes.now) c.at_branch.result in
+    visited-carries store g.met.T.Texts.alike_onward c.args.store.now c.visit.new.store c.at_branch.new.store (g.met.T.Texts.alike_texts c.args.store.now c.visit.new.store c.in_ok-node.ensures.left.same) c.args.depth c.args.after_extension c.args.digest.now c.in_ok-node.field-0 c.in_ok-node.ensures.left (option_map value_of c.in-Branch.value) (children_in c.deref.result.now) sees (changes_at c.args.depth c.args.changes.now) c.at_branch.result (c.at_branch.ensures.carries sees.below children)
 
 pub at_digest-returns-in-Branch-clause-placed : goal.at_digest-returns-in-Branch-clause-placed
 at_digest-returns-in-Branch-clause-placed g t c =
     let store = g.T.Texts.store in
-    let first = c.args.store.now in
-    let mid = c.visit.new.store in
-    let table = store.texts first in
-    let depth = c.args.depth in
-    let after = c.args.after_extension in
-    let digest = c.args.digest.now in
-    let cs = changes_at depth c.args.changes.now in
-    let deep = lent-deep depth c.args.changes.now c.requires.changes c.requires.some in
-    let visited = c.in_ok-node.field-0 in
-    let left = c.in_ok-node.ensures.left in
-    let sees = sees-visited table depth after digest visited deep c.in_ok-node.ensures.answer in
-    let onward = g.met.T.Texts.alike_onward in
-    let same = g.met.T.Texts.alike_texts first mid left.same in
-    let ref = option_map value_of c.in-Branch.value in
-    let kids = children_in c.deref.result.now in
-    let here = subst (λ k. SeesBranch table depth after digest visited ref (children_in k)) (sym c.deref.ensures) (subst (SeesCopy table depth after digest visited) c.in-Branch.is sees) in
-    let new = c.at_branch.new.store in
-    let result = c.at_branch.result in
-    let children = visited-children store onward first mid new same depth after digest visited left ref kids here cs result in
-    visited-placed store onward first mid new same depth after digest visited left ref kids here cs result c.args.ledger.now c.lose.new.self c.at_branch.new.ledger _ c.in_ok-lose.ensures.loses (c.at_branch.ensures.placed here.below children)
+    let copy = copy-old (store.texts c.args.store.now) c.args.depth c.args.after_extension c.args.digest.now c.args.changes.now c.requires.changes c.requires.some c.in_ok-node.field-0 c.in_ok-node.ensures.answer _ c.in-Branch.is in
+    let sees = subst (λ kids. SeesBranch (store.texts c.args.store.now) c.args.depth c.args.after_extension c.args.digest.now c.in_ok-node.field-0 (option_map value_of c.in-Branch.value) (children_in kids)) (sym c.deref.ensures) copy in
+    let children = visited-children store g.met.T.Texts.alike_onward c.args.store.now c.visit.new.store c.at_branch.new.store (g.met.T.Texts.alike_texts c.args.store.now c.visit.new.store c.in_ok-node.ensures.left.same) c.args.depth c.args.after_extension c.args.digest.now c.in_ok-node.field-0 c.in_ok-node.ensures.left (option_map value_of c.in-Branch.value) (children_in c.deref.result.now) sees (changes_at c.args.depth c.args.changes.now) c.at_branch.result in
+    visited-placed store g.met.T.Texts.alike_onward c.args.store.now c.visit.new.store c.at_branch.new.store (g.met.T.Texts.alike_texts c.args.store.now c.visit.new.store c.in_ok-node.ensures.left.same) c.args.depth c.args.after_extension c.args.digest.now c.in_ok-node.field-0 c.in_ok-node.ensures.left (option_map value_of c.in-Branch.value) (children_in c.deref.result.now) sees (changes_at c.args.depth c.args.changes.now) c.at_branch.result c.args.ledger.now c.lose.new.self c.at_branch.new.ledger _ c.in_ok-lose.ensures.loses (c.at_branch.ensures.placed sees.below children)
 
 pub at_digest-returns-in-Branch-clause-keeps : goal.at_digest-returns-in-Branch-clause-keeps
 at_digest-returns-in-Branch-clause-keeps g t c =
     let store = g.T.Texts.store in
-    let first = c.args.store.now in
-    let mid = c.visit.new.store in
-    let table = store.texts first in
-    let depth = c.args.depth in
-    let after = c.args.after_extension in
-    let digest = c.args.digest.now in
-    let cs = changes_at depth c.args.changes.now in
-    let deep = lent-deep depth c.args.changes.now c.requires.changes c.requires.some in
-    let visited = c.in_ok-node.field-0 in
-    let left = c.in_ok-node.ensures.left in
-    let sees = sees-visited table depth after digest visited deep c.in_ok-node.ensures.answer in
-    let onward = g.met.T.Texts.alike_onward in
-    let same = g.met.T.Texts.alike_texts first mid left.same in
-    let ref = option_map value_of c.in-Branch.value in
-    let kids = children_in c.deref.result.now in
-    let here = subst (λ k. SeesBranch table depth after digest visited ref (children_in k)) (sym c.deref.ensures) (subst (SeesCopy table depth after digest visited) c.in-Branch.is sees) in
-    let new = c.at_branch.new.store in
-    let result = c.at_branch.result in
-    let children = visited-children store onward first mid new same depth after digest visited left ref kids here cs result in
-    visited-keeps store onward first mid new same depth after digest visited left ref kids here cs result (c.at_branch.ensures.keeps here.below children)
+    let copy = copy-old (store.texts c.args.store.now) c.args.depth c.args.after_extension c.args.digest.now c.args.changes.now c.requires.changes c.requires.some c.in_ok-node.field-0 c.in_ok-node.ensures.answer _ c.in-Branch.is in
+    let sees = subst (λ kids. SeesBranch (store.texts c.args.store.now) c.args.depth c.args.after_extension c.args.digest.now c.in_ok-node.field-0 (option_map value_of c.in-Branch.value) (children_in kids)) (sym c.deref.ensures) copy in
+    let children = visited-children store g.met.T.Texts.alike_onward c.args.store.now c.visit.new.store c.at_branch.new.store (g.met.T.Texts.alike_texts c.args.store.now c.visit.new.store c.in_ok-node.ensures.left.same) c.args.depth c.args.after_extension c.args.digest.now c.in_ok-node.field-0 c.in_ok-node.ensures.left (option_map value_of c.in-Branch.value) (children_in c.deref.result.now) sees (changes_at c.args.depth c.args.changes.now) c.at_branch.result in
+    visited-keeps store g.met.T.Texts.alike_onward c.args.store.now c.visit.new.store c.at_branch.new.store (g.met.T.Texts.alike_texts c.args.store.now c.visit.new.store c.in_ok-node.ensures.left.same) c.args.depth c.args.after_extension c.args.digest.now c.in_ok-node.field-0 c.in_ok-node.ensures.left (option_map value_of c.in-Branch.value) (children_in c.deref.result.now) sees (changes_at c.args.depth c.args.changes.now) c.at_branch.result (c.at_branch.ensures.keeps sees.below children)
 
 pub at_fork-returns-in_err-left-clause-carries : goal.at_fork-returns-in_err-left-clause-carries
 at_fork-returns-in_err-left-clause-carries g t c =
@@ -604,112 +413,56 @@ at_former-returns-then-is_empty-clause-child g t c =
     let old = c.args.store.now in
     let table = store.texts old in
     let cs = changes_at c.args.depth c.args.changes.now in
-    let p = place_of table c.args.depth c.args.former.now in
     let none : cs ≡ [] = ap (changes_at c.args.depth) (empty-changes c.args.changes.now c.if-is_empty.ensures) in
     child-untouched table c.args.depth c.args.former.now cs c.args.ledger.now c.in_ok-unchanged.field-0 none c.in_ok-unchanged.ensures.child
 
 pub at_former-returns-in_err-sub-in-Known-clause-carries : goal.at_former-returns-in_err-sub-in-Known-clause-carries
 at_former-returns-in_err-sub-in-Known-clause-carries g t c =
     let store = g.T.Texts.store in
-    let old = c.args.store.now in
-    let table = store.texts old in
-    let cs = changes_at c.args.depth c.args.changes.now in
     let some = some-changes c.args.changes.now c.if-is_empty.ensures in
-    let p = place_of table c.args.depth c.args.former.now in
-    let long = length-changes_at c.args.depth c.args.changes.now in
-    let below = seen_past table c.args.depth 0 c.in-Known.old in
-    let top = old_past 0 c.in-Known.old in
-    let visits = top_visits below top cs in
-    let stated = top_stated below top cs in
-    let outcome = laid (λ x. updated below x) top cs in
-    let touched = known-touched table c.args.depth c.args.former.now c.args.changes.now some c.in-Known.old c.in-Known.is in
-    carries-placed c.args.depth p cs (length c.args.changes.now) visits stated outcome touched long store old c.at_path.new.store c.from_residual-in_err-sub-in-Known.result
-    (carries-passed store {X = Placed} {Y = Child × ℕ} old c.at_path.new.store visits c.in_err-sub-in-Known.field-0.0 c.from_residual-in_err-sub-in-Known.result c.from_residual-in_err-sub-in-Known.ensures.1 c.in_err-sub-in-Known.ensures.carries)
+    let touched = known-touched (store.texts c.args.store.now) c.args.depth c.args.former.now c.args.changes.now some c.in-Known.old c.in-Known.is in
+    carries-placed c.args.depth _ _ _ _ _ _ touched (length-changes_at c.args.depth c.args.changes.now) store c.args.store.now c.at_path.new.store c.from_residual-in_err-sub-in-Known.result
+    (carries-passed store {X = Placed} {Y = Child × ℕ} c.args.store.now c.at_path.new.store _ c.in_err-sub-in-Known.field-0.0 c.from_residual-in_err-sub-in-Known.result c.from_residual-in_err-sub-in-Known.ensures.1 c.in_err-sub-in-Known.ensures.carries)
 
 pub at_former-returns-in_err-sub-in-Named-clause-carries : goal.at_former-returns-in_err-sub-in-Named-clause-carries
 at_former-returns-in_err-sub-in-Named-clause-carries g t c =
     let store = g.T.Texts.store in
-    let old = c.args.store.now in
-    let table = store.texts old in
-    let cs = changes_at c.args.depth c.args.changes.now in
     let some = some-changes c.args.changes.now c.if-is_empty.ensures in
-    let p = place_of table c.args.depth c.args.former.now in
-    let long = length-changes_at c.args.depth c.args.changes.now in
-    let seen = seen_at table c.args.depth false c.in-Named.digest.0 in
-    let visits = visits_at seen cs in
-    let stated = stated_usage seen in
-    let outcome = updated seen cs in
-    let touched = named-touched table c.args.depth c.args.former.now c.args.changes.now some c.in-Named.digest c.in-Named.is in
-    carries-placed c.args.depth p cs (length c.args.changes.now) visits stated outcome touched long store old c.at_digest.new.store c.from_residual-in_err-sub-in-Named.result
-    (carries-passed store {X = Placed} {Y = Child × ℕ} old c.at_digest.new.store visits c.in_err-sub-in-Named.field-0.0 c.from_residual-in_err-sub-in-Named.result c.from_residual-in_err-sub-in-Named.ensures.1 c.in_err-sub-in-Named.ensures.carries)
+    let touched = named-touched (store.texts c.args.store.now) c.args.depth c.args.former.now c.args.changes.now some c.in-Named.digest c.in-Named.is in
+    carries-placed c.args.depth _ _ _ _ _ _ touched (length-changes_at c.args.depth c.args.changes.now) store c.args.store.now c.at_digest.new.store c.from_residual-in_err-sub-in-Named.result
+    (carries-passed store {X = Placed} {Y = Child × ℕ} c.args.store.now c.at_digest.new.store _ c.in_err-sub-in-Named.field-0.0 c.from_residual-in_err-sub-in-Named.result c.from_residual-in_err-sub-in-Named.ensures.1 c.in_err-sub-in-Named.ensures.carries)
 
 pub at_former-returns-in_ok-sub-in-Known-clause-carries : goal.at_former-returns-in_ok-sub-in-Known-clause-carries
 at_former-returns-in_ok-sub-in-Known-clause-carries g t c =
     let store = g.T.Texts.store in
-    let old = c.args.store.now in
-    let table = store.texts old in
-    let cs = changes_at c.args.depth c.args.changes.now in
     let some = some-changes c.args.changes.now c.if-is_empty.ensures in
-    let p = place_of table c.args.depth c.args.former.now in
-    let long = length-changes_at c.args.depth c.args.changes.now in
-    let below = seen_past table c.args.depth 0 c.in-Known.old in
-    let top = old_past 0 c.in-Known.old in
-    let visits = top_visits below top cs in
-    let stated = top_stated below top cs in
-    let outcome = laid (λ x. updated below x) top cs in
-    let touched = known-touched table c.args.depth c.args.former.now c.args.changes.now some c.in-Known.old c.in-Known.is in
-    carries-placed c.args.depth p cs (length c.args.changes.now) visits stated outcome touched long {X = Child × ℕ} store old c.at_path.new.store _
-    (carries-ok store {X = Placed} {Y = Child × ℕ} old c.at_path.new.store visits c.in_ok-sub-in-Known.field-0 _ c.in_ok-sub-in-Known.ensures.carries)
+    let touched = known-touched (store.texts c.args.store.now) c.args.depth c.args.former.now c.args.changes.now some c.in-Known.old c.in-Known.is in
+    carries-placed c.args.depth _ _ _ _ _ _ touched (length-changes_at c.args.depth c.args.changes.now) {X = Child × ℕ} store c.args.store.now c.at_path.new.store _
+    (carries-ok store {X = Placed} {Y = Child × ℕ} c.args.store.now c.at_path.new.store _ c.in_ok-sub-in-Known.field-0 _ c.in_ok-sub-in-Known.ensures.carries)
 
 pub at_former-returns-in_ok-sub-in-Known-clause-child : goal.at_former-returns-in_ok-sub-in-Known-clause-child
 at_former-returns-in_ok-sub-in-Known-clause-child g t c =
     let store = g.T.Texts.store in
-    let old = c.args.store.now in
-    let table = store.texts old in
-    let cs = changes_at c.args.depth c.args.changes.now in
     let some = some-changes c.args.changes.now c.if-is_empty.ensures in
-    let p = place_of table c.args.depth c.args.former.now in
-    let long = length-changes_at c.args.depth c.args.changes.now in
-    let below = seen_past table c.args.depth 0 c.in-Known.old in
-    let top = old_past 0 c.in-Known.old in
-    let visits = top_visits below top cs in
-    let stated = top_stated below top cs in
-    let outcome = laid (λ x. updated below x) top cs in
-    let touched = known-touched table c.args.depth c.args.former.now c.args.changes.now some c.in-Known.old c.in-Known.is in
-    child-placed c.args.depth p cs (length c.args.changes.now) visits stated outcome touched long c.args.ledger.now c.at_path.new.ledger c.in_ok-sub-in-Known.field-0 c.in_ok-sub-in-Known.ensures.placed (known-keeps table c.args.depth c.args.former.now c.args.changes.now some c.in-Known.old c.in-Known.is c.in_ok-sub-in-Known.ensures.keeps)
+    let touched = known-touched (store.texts c.args.store.now) c.args.depth c.args.former.now c.args.changes.now some c.in-Known.old c.in-Known.is in
+    child-placed c.args.depth _ _ _ _ _ _ touched (length-changes_at c.args.depth c.args.changes.now) c.args.ledger.now c.at_path.new.ledger c.in_ok-sub-in-Known.field-0 c.in_ok-sub-in-Known.ensures.placed
+    (known-keeps (store.texts c.args.store.now) c.args.depth c.args.former.now c.args.changes.now some c.in-Known.old c.in-Known.is c.in_ok-sub-in-Known.ensures.keeps)
 
 pub at_former-returns-in_ok-sub-in-Named-clause-carries : goal.at_former-returns-in_ok-sub-in-Named-clause-carries
 at_former-returns-in_ok-sub-in-Named-clause-carries g t c =
     let store = g.T.Texts.store in
-    let old = c.args.store.now in
-    let table = store.texts old in
-    let cs = changes_at c.args.depth c.args.changes.now in
     let some = some-changes c.args.changes.now c.if-is_empty.ensures in
-    let p = place_of table c.args.depth c.args.former.now in
-    let long = length-changes_at c.args.depth c.args.changes.now in
-    let seen = seen_at table c.args.depth false c.in-Named.digest.0 in
-    let visits = visits_at seen cs in
-    let stated = stated_usage seen in
-    let outcome = updated seen cs in
-    let touched = named-touched table c.args.depth c.args.former.now c.args.changes.now some c.in-Named.digest c.in-Named.is in
-    carries-placed c.args.depth p cs (length c.args.changes.now) visits stated outcome touched long {X = Child × ℕ} store old c.at_digest.new.store _
-    (carries-ok store {X = Placed} {Y = Child × ℕ} old c.at_digest.new.store visits c.in_ok-sub-in-Named.field-0 _ c.in_ok-sub-in-Named.ensures.carries)
+    let touched = named-touched (store.texts c.args.store.now) c.args.depth c.args.former.now c.args.changes.now some c.in-Named.digest c.in-Named.is in
+    carries-placed c.args.depth _ _ _ _ _ _ touched (length-changes_at c.args.depth c.args.changes.now) {X = Child × ℕ} store c.args.store.now c.at_digest.new.store _
+    (carries-ok store {X = Placed} {Y = Child × ℕ} c.args.store.now c.at_digest.new.store _ c.in_ok-sub-in-Named.field-0 _ c.in_ok-sub-in-Named.ensures.carries)
 
 pub at_former-returns-in_ok-sub-in-Named-clause-child : goal.at_former-returns-in_ok-sub-in-Named-clause-child
 at_former-returns-in_ok-sub-in-Named-clause-child g t c =
     let store = g.T.Texts.store in
-    let old = c.args.store.now in
-    let table = store.texts old in
-    let cs = changes_at c.args.depth c.args.changes.now in
     let some = some-changes c.args.changes.now c.if-is_empty.ensures in
-    let p = place_of table c.args.depth c.args.former.now in
-    let long = length-changes_at c.args.depth c.args.changes.now in
-    let seen = seen_at table c.args.depth false c.in-Named.digest.0 in
-    let visits = visits_at seen cs in
-    let stated = stated_usage seen in
-    let outcome = updated seen cs in
-    let touched = named-touched table c.args.depth c.args.former.now c.args.changes.now some c.in-Named.digest c.in-Named.is in
-    child-placed c.args.depth p cs (length c.args.changes.now) visits stated outcome touched long c.args.ledger.now c.at_digest.new.ledger c.in_ok-sub-in-Named.field-0 c.in_ok-sub-in-Named.ensures.placed (named-keeps table c.args.depth c.args.former.now c.args.changes.now some c.in-Named.digest c.in-Named.is c.in_ok-sub-in-Named.ensures.keeps)
+    let touched = named-touched (store.texts c.args.store.now) c.args.depth c.args.former.now c.args.changes.now some c.in-Named.digest c.in-Named.is in
+    child-placed c.args.depth _ _ _ _ _ _ touched (length-changes_at c.args.depth c.args.changes.now) c.args.ledger.now c.at_digest.new.ledger c.in_ok-sub-in-Named.field-0 c.in_ok-sub-in-Named.ensures.placed
+    (named-keeps (store.texts c.args.store.now) c.args.depth c.args.former.now c.args.changes.now some c.in-Named.digest c.in-Named.is c.in_ok-sub-in-Named.ensures.keeps)
 
 pub at_nibbles-run_length-requires-clause-rises : goal.at_nibbles-run_length-requires-clause-rises
 at_nibbles-run_length-requires-clause-rises g t c = c.loop-nibble.invariant.left.changes.rises
@@ -855,7 +608,6 @@ at_path-returns-in_err-placed-in-Some-clause-carries g t c =
     let visits = path-visits table c.args.depth count changes d stood c.requires.some shared.ensures.deeper shared.ensures.keys shared.ensures.begin in
     let led = led-some table below count stood c.in-Some.child c.in-Some.ensures in
     let more = changes-some below changes c.requires.some in
-    let there = seen_at table below true c.in-Some.child.0 in
     let cs = changes_at below changes in
     let led_is = led-visits table below count stood c.in-Some.child led cs more in
     let new = c.at_digest.new.store in
@@ -885,17 +637,12 @@ at_path-returns-in_err-placed-in-None-clause-carries g t c =
     let table = store.texts old in
     let shared = c.shared_length-shared in
     let count = shared.result in
-    let below = c.args.depth + count in
     let changes = c.args.changes.now in
     let stood = c.args.old.now in
     let d = some-lent changes c.requires.some in
     let visits = path-visits table c.args.depth count changes d stood c.requires.some shared.ensures.deeper shared.ensures.keys shared.ensures.begin in
-    let base = old_past count stood in
-    let seen = seen_past table below count stood in
-    let cs = changes_at below changes in
     let new = c.at_fork.new.store in
     let whole = top_visits (seen_past table c.args.depth 0 stood) (old_past 0 stood) (changes_at c.args.depth changes) in
-    let forks = led-none count stood c.in-None.ensures (reaches-begin c.args.depth changes count stood shared.ensures.begin) in
     carries-passed store {X = Placed} {Y = Placed} old new whole c.in_err-placed-in-None.field-0.0 c.from_residual-in_err-placed-in-None.result c.from_residual-in_err-placed-in-None.ensures.1
     (subst (λ v. Carries {X = Placed} store old new v (Err c.in_err-placed-in-None.field-0.0)) (sym visits) c.in_err-placed-in-None.ensures.carries)
 
@@ -913,7 +660,6 @@ at_path-returns-in_ok-placed-in-Some-clause-carries g t c =
     let visits = path-visits table c.args.depth count changes d stood c.requires.some shared.ensures.deeper shared.ensures.keys shared.ensures.begin in
     let led = led-some table below count stood c.in-Some.child c.in-Some.ensures in
     let more = changes-some below changes c.requires.some in
-    let there = seen_at table below true c.in-Some.child.0 in
     let cs = changes_at below changes in
     let led_is = led-visits table below count stood c.in-Some.child led cs more in
     let new = c.at_digest.new.store in
@@ -932,14 +678,10 @@ at_path-returns-in_ok-placed-in-Some-clause-placed g t c =
     let changes = c.args.changes.now in
     let stood = c.args.old.now in
     let d = some-lent changes c.requires.some in
-    let visits = path-visits table c.args.depth count changes d stood c.requires.some shared.ensures.deeper shared.ensures.keys shared.ensures.begin in
     let led = led-some table below count stood c.in-Some.child c.in-Some.ensures in
     let more = changes-some below changes c.requires.some in
     let there = seen_at table below true c.in-Some.child.0 in
     let cs = changes_at below changes in
-    let led_is = led-visits table below count stood c.in-Some.child led cs more in
-    let new = c.at_digest.new.store in
-    let whole = top_visits (seen_past table c.args.depth 0 stood) (old_past 0 stood) (changes_at c.args.depth changes) in
     if_ok-both c.lower.result _ _ _ (λ lower top stated. path-placed table c.args.depth count changes d stood c.requires.some shared.ensures.deeper shared.ensures.keys shared.ensures.begin (updated there cs) (stated_usage there) (length changes) c.args.ledger.now c.at_digest.new.ledger c.in_ok-placed-in-Some.placed lower
     (led-outcome table below count stood c.in-Some.child led cs more) (led-stated table below count stood c.in-Some.child led cs more) c.in_ok-placed-in-Some.ensures.placed (top d) stated) c.lower.ensures.top c.lower.ensures.stated
 
@@ -954,14 +696,9 @@ at_path-returns-in_ok-placed-in-Some-clause-keeps g t c =
     let changes = c.args.changes.now in
     let stood = c.args.old.now in
     let d = some-lent changes c.requires.some in
-    let visits = path-visits table c.args.depth count changes d stood c.requires.some shared.ensures.deeper shared.ensures.keys shared.ensures.begin in
     let led = led-some table below count stood c.in-Some.child c.in-Some.ensures in
     let more = changes-some below changes c.requires.some in
-    let there = seen_at table below true c.in-Some.child.0 in
     let cs = changes_at below changes in
-    let led_is = led-visits table below count stood c.in-Some.child led cs more in
-    let new = c.at_digest.new.store in
-    let whole = top_visits (seen_past table c.args.depth 0 stood) (old_past 0 stood) (changes_at c.args.depth changes) in
     let keeps = path-keeps table c.args.depth count changes d stood c.requires.some shared.ensures.deeper shared.ensures.keys shared.ensures.begin (led-keeps table below count stood c.in-Some.child led cs more c.in_ok-placed-in-Some.ensures.keeps) in
     IfOk-weaker c.lower.result _ (λ _. TopKeeps c.args.depth (seen_past table c.args.depth 0 stood) (old_past 0 stood) (changes_at c.args.depth changes)) (λ lower e. keeps) c.lower.ensures.stated
 
@@ -972,17 +709,12 @@ at_path-returns-in_ok-placed-in-None-clause-carries g t c =
     let table = store.texts old in
     let shared = c.shared_length-shared in
     let count = shared.result in
-    let below = c.args.depth + count in
     let changes = c.args.changes.now in
     let stood = c.args.old.now in
     let d = some-lent changes c.requires.some in
     let visits = path-visits table c.args.depth count changes d stood c.requires.some shared.ensures.deeper shared.ensures.keys shared.ensures.begin in
-    let base = old_past count stood in
-    let seen = seen_past table below count stood in
-    let cs = changes_at below changes in
     let new = c.at_fork.new.store in
     let whole = top_visits (seen_past table c.args.depth 0 stood) (old_past 0 stood) (changes_at c.args.depth changes) in
-    let forks = led-none count stood c.in-None.ensures (reaches-begin c.args.depth changes count stood shared.ensures.begin) in
     carries-end store {X = Placed} {Y = Placed} old new whole c.in_ok-placed-in-None.placed c.lower-in-None.result c.lower-in-None.ensures.error
     (subst (λ v. Carries {X = Placed} store old new v (Ok c.in_ok-placed-in-None.placed)) (sym visits) c.in_ok-placed-in-None.ensures.carries)
 
@@ -997,12 +729,9 @@ at_path-returns-in_ok-placed-in-None-clause-placed g t c =
     let changes = c.args.changes.now in
     let stood = c.args.old.now in
     let d = some-lent changes c.requires.some in
-    let visits = path-visits table c.args.depth count changes d stood c.requires.some shared.ensures.deeper shared.ensures.keys shared.ensures.begin in
     let base = old_past count stood in
     let seen = seen_past table below count stood in
     let cs = changes_at below changes in
-    let new = c.at_fork.new.store in
-    let whole = top_visits (seen_past table c.args.depth 0 stood) (old_past 0 stood) (changes_at c.args.depth changes) in
     let forks = led-none count stood c.in-None.ensures (reaches-begin c.args.depth changes count stood shared.ensures.begin) in
     let child : List Change → Outcome = λ ds. updated seen ds in
     if_ok-both c.lower-in-None.result _ _ _ (λ lower top stated. path-placed table c.args.depth count changes d stood c.requires.some shared.ensures.deeper shared.ensures.keys shared.ensures.begin (fork_outcome (laid child) base cs) (top_stated seen base cs) (length changes) c.args.ledger.now c.at_fork.new.ledger c.in_ok-placed-in-None.placed lower
@@ -1015,17 +744,9 @@ at_path-returns-in_ok-placed-in-None-clause-keeps g t c =
     let table = store.texts old in
     let shared = c.shared_length-shared in
     let count = shared.result in
-    let below = c.args.depth + count in
     let changes = c.args.changes.now in
     let stood = c.args.old.now in
     let d = some-lent changes c.requires.some in
-    let visits = path-visits table c.args.depth count changes d stood c.requires.some shared.ensures.deeper shared.ensures.keys shared.ensures.begin in
-    let base = old_past count stood in
-    let seen = seen_past table below count stood in
-    let cs = changes_at below changes in
-    let new = c.at_fork.new.store in
-    let whole = top_visits (seen_past table c.args.depth 0 stood) (old_past 0 stood) (changes_at c.args.depth changes) in
-    let forks = led-none count stood c.in-None.ensures (reaches-begin c.args.depth changes count stood shared.ensures.begin) in
     let keeps = path-keeps table c.args.depth count changes d stood c.requires.some shared.ensures.deeper shared.ensures.keys shared.ensures.begin c.in_ok-placed-in-None.ensures.keeps in
     IfOk-weaker c.lower-in-None.result _ (λ _. TopKeeps c.args.depth (seen_past table c.args.depth 0 stood) (old_past 0 stood) (changes_at c.args.depth changes)) (λ lower e. keeps) c.lower-in-None.ensures.stated
 
