@@ -1,11 +1,11 @@
 ghost use Rattle.std.specs.Prelude.{◌≡◌, Ok, IfOk};
-ghost use Rattle.partial_model.specs.Recording.{IsRecording, spelled_recording, recording_in};
+ghost use Rattle.partial_model.specs.Recording.{spelled_recording, recording_in};
 ghost use Rattle.partial_state.specs.Recordings.{AnswersRecording, recording_of};
 
 use crate::ops::Ops;
 use crate::proof_error::ProofError;
 use crate::reading::{read_changes, read_reads};
-use crate::writing::{write_changes, write_reads, write_state};
+use crate::writing::{write_changes, write_reads, write_root, write_state};
 use base_core::{Digest, Reader, Text, Writer};
 use std::alloc::{AllocError, Global};
 use text_store::PartialTexts;
@@ -40,10 +40,9 @@ impl Proof {
     pub fn write(&self, alloc: Global) -> Result<Text, AllocError>
         ensures bytes { IfOk result (λ text. text ≡ spelled_recording (recording_of self.now)) }
         ensures again { IfOk result (λ text. recording_in text ≡ Ok (recording_of self.now)) }
-        ensures held { IsRecording (recording_of self.now) }
     {
         let mut writer = Writer::new(alloc);
-        writer.put_raw(&self.root.0)?;
+        write_root(&mut writer, &self.root.0)?;
         write_reads(&mut writer, self.ops.reads())?;
         write_changes(alloc, &mut writer, self.ops.changes())?;
         write_state(&mut writer, &self.state)?;

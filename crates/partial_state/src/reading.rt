@@ -29,11 +29,7 @@ pub(crate) fn read_reads(alloc: Global, reader: &mut Reader<'_>) -> Result<Vec<T
     read_keys(alloc, reader, count)
 }
 
-fn read_keys(
-    alloc: Global,
-    reader: &mut Reader<'_>,
-    count: u32,
-) -> Result<Vec<Text>, ProofError>
+fn read_keys(alloc: Global, reader: &mut Reader<'_>, count: u32) -> Result<Vec<Text>, ProofError>
     ensures read { Reads (λ keys. keys.items) result reader.old reader.new (keys_at count) }
     ensures count { IfOk result (λ keys. length keys.items ≡ count) }
     ensures each { IfOk result (λ keys. AllByRecursion IsKey keys.items) }
@@ -65,11 +61,7 @@ pub(crate) fn read_changes(alloc: Global, reader: &mut Reader<'_>) -> Result<Cha
     read_batch(alloc, reader, count)
 }
 
-fn read_batch(
-    alloc: Global,
-    reader: &mut Reader<'_>,
-    count: u32,
-) -> Result<Changes, ProofError>
+fn read_batch(alloc: Global, reader: &mut Reader<'_>, count: u32) -> Result<Changes, ProofError>
     requires { count ≤ most_changes }
     ensures read { Reads (λ changes. entries changes.changes) result reader.old reader.new (changes_from count None) }
     ensures most { IfOk result (λ changes. changes.most ≡ most_changes) }
@@ -107,7 +99,7 @@ fn is_behind(key: &[u8], earlier: Option<&[u8]>) -> bool
     ensures { result ≡ follows (option_copied earlier.entry) key.now }
 {
     match earlier {
-        Some(earlier) => key > earlier,
+        Some(earlier) => earlier < key,
         None => true,
     }
 }
@@ -120,7 +112,7 @@ fn put_change(
     value: Option<&[u8]>,
 ) -> Result<(), AllocError>
     requires key { length key.now ≤ longest_key }
-    requires value { IfSome value.entry (λ v. length v.now ≤ longest_value) }
+    requires value { IfSome value (λ v. length v.now ≤ longest_value) }
     requires room { length (entries changes.old.changes) < changes.old.most }
     ensures ok { OnOk result (changes.new ≡ changed changes.old key.now (option_copied value.entry)) }
 {

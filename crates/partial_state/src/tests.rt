@@ -25,7 +25,12 @@ fn operations_are_gathered(rt: HostRuntime) -> Result<(), Fail> {
     ops.put(key(alloc, b"a")?, key(alloc, b"x")?)?;
     ops.read(key(alloc, b"b")?)?;
     ops.remove(key(alloc, b"a")?)?;
-    assert!(rt; matches!(ops.put(key(alloc, b"c")?, key(alloc, b"")?), Err(PutError::Full)));
+    assert!(rt;
+        matches!(
+            ops.put(key(alloc, b"c")?, key(alloc, b"")?),
+            Err(PutError::Full)
+        )
+    );
     assert_eq!(rt; ops.reads().len(), 2);
     assert_eq!(rt; ops.changes().len(), 1);
     assert_eq!(rt; ops.changes().get(b"a"), Some(None));
@@ -136,7 +141,11 @@ fn head(at: u64) -> Option<ProofError> {
 
 fn expect_cut(rt: &impl Abort, alloc: Global, length: usize, at: u64) {
     if length <= SMALL.len() {
-        assert_eq!(rt; refusal(alloc, &SMALL[..length]), short(at), "{length} bytes");
+        assert_eq!(rt;
+            refusal(alloc, &SMALL[..length]),
+            short(at),
+            "{length} bytes"
+        );
     }
 }
 
