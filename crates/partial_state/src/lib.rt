@@ -3,12 +3,14 @@
 #![tactic(auto)]
 
 mod fields;
+mod laws;
 mod ops;
 mod proof;
 mod proof_error;
 mod reading;
 mod writing;
 
+pub use laws::most_reads_are_those_of_the_definition;
 pub use ops::{MOST_READS, Ops};
 pub use proof::Proof;
 pub use proof_error::ProofError;

@@ -1,17 +1,21 @@
 use super::*;
-use base_core::{BorshError, PutError, Text, Writer, digest};
+use base_core::{BorshError, Digest, PutError, Text, Writer, digest};
 use std::alloc::{AllocError, Global};
 use std::process::Abort;
 use std::test::Fail;
 use text_store::{TextSet, write_partial};
 
 /// The key 61 is read, the key 62 is deleted, and the key 63 becomes 64. The root is 32 zeros, and
-/// no text is there.
-const SMALL: [u8; 67] = [
-    0, 0, 0, 0, 0, 0, 0, 0, 0, 0, 0, 0, 0, 0, 0, 0, 0, 0, 0, 0, 0, 0, 0, 0, 0, 0, 0, 0, 0, 0, 0, 0,
-    1, 0, 0, 0, 1, 0, 0, 0, 0x61, 2, 0, 0, 0, 1, 0, 0, 0, 0x62, 0, 1, 0, 0, 0, 0x63, 1, 1, 0, 0, 0,
-    0x64, 0, 0, 0, 0, 0,
-];
+/// no text is there. 67 bytes.
+fn small(alloc: Global) -> Result<Text, AllocError> {
+    let mut writer = Writer::new(alloc);
+    writer.put_raw(&Digest::ZERO.0)?;
+    writer.put_raw(&[1, 0, 0, 0, 1, 0, 0, 0, 0x61])?;
+    writer.put_raw(&[2, 0, 0, 0, 1, 0, 0, 0, 0x62, 0])?;
+    writer.put_raw(&[1, 0, 0, 0, 0x63, 1, 1, 0, 0, 0, 0x64])?;
+    writer.put_raw(&[0, 0, 0, 0, 0])?;
+    Ok(writer.into_text())
+}
 
 fn key(alloc: Global, bytes: &[u8]) -> Result<Text, AllocError> {
     Text::copy(alloc, bytes)
@@ -139,10 +143,10 @@ fn head(at: u64) -> Option<ProofError> {
     Some(ProofError::Head { at })
 }
 
-fn expect_cut(rt: &impl Abort, alloc: Global, length: usize, at: u64) {
-    if length <= SMALL.len() {
+fn expect_cut(rt: &impl Abort, alloc: Global, bytes: &[u8], length: usize, at: u64) {
+    if length <= bytes.len() {
         assert_eq!(rt;
-            refusal(alloc, &SMALL[..length]),
+            refusal(alloc, &bytes[..length]),
             short(at),
             "{length} bytes"
         );
@@ -150,16 +154,26 @@ fn expect_cut(rt: &impl Abort, alloc: Global, length: usize, at: u64) {
 }
 
 #[test]
-fn each_cut_is_refused(rt: HostRuntime) {
+fn each_cut_is_refused(rt: HostRuntime) -> Result<(), Fail> {
     let alloc = rt.alloc();
+    let bytes = small(alloc)?;
     let fields = [0, 32, 36, 40, 41, 45, 49, 50, 51, 55, 56, 57, 61, 62, 63];
     let mut at = 0;
     for length in 0..67 {
         if fields.contains(&length) {
             at = length;
         }
-        expect_cut(&rt, alloc, length, at as u64);
+        expect_cut(&rt, alloc, bytes.as_slice(), length, at as u64);
     }
+    Ok(())
+}
+
+fn changed(alloc: Global, bytes: &[u8], place: usize) -> Result<Vec<u8>, AllocError> {
+    let mut changed = Vec::from_slice(alloc, bytes)?;
+    if place < changed.len() {
+        changed[place] = changed[place].wrapping_add(1);
+    }
+    Ok(changed)
 }
 
 fn expect_changed(
@@ -168,58 +182,64 @@ fn expect_changed(
     from: usize,
     to: usize,
     expected: Option<ProofError>,
-) {
+) -> Result<(), Fail> {
+    let bytes = small(alloc)?;
     for place in from..to {
-        let mut bytes = SMALL;
-        if place < bytes.len() {
-            bytes[place] += 1;
-            assert_eq!(rt; refusal(alloc, &bytes), expected, "byte {place}");
-        }
+        let changed = changed(alloc, bytes.as_slice(), place)?;
+        assert_eq!(rt;
+            refusal(alloc, changed.as_slice()),
+            expected,
+            "byte {place}"
+        );
     }
+    Ok(())
 }
 
 #[test]
-fn each_changed_byte_of_the_reads_is_seen(rt: HostRuntime) {
+fn each_changed_byte_of_the_reads_is_seen(rt: HostRuntime) -> Result<(), Fail> {
     let alloc = rt.alloc();
-    expect_changed(&rt, alloc, 0, 32, None);
-    expect_changed(&rt, alloc, 32, 33, head(47));
-    expect_changed(&rt, alloc, 33, 34, short(51));
-    expect_changed(&rt, alloc, 34, 36, head(32));
-    expect_changed(&rt, alloc, 36, 37, head(42));
-    expect_changed(&rt, alloc, 37, 40, short(40));
-    expect_changed(&rt, alloc, 40, 41, None);
+    expect_changed(&rt, alloc, 0, 32, None)?;
+    expect_changed(&rt, alloc, 32, 33, head(47))?;
+    expect_changed(&rt, alloc, 33, 34, short(51))?;
+    expect_changed(&rt, alloc, 34, 36, head(32))?;
+    expect_changed(&rt, alloc, 36, 37, head(42))?;
+    expect_changed(&rt, alloc, 37, 40, short(40))?;
+    expect_changed(&rt, alloc, 40, 41, None)?;
+    Ok(())
 }
 
 #[test]
-fn each_changed_byte_of_the_changes_is_seen(rt: HostRuntime) {
+fn each_changed_byte_of_the_changes_is_seen(rt: HostRuntime) -> Result<(), Fail> {
     let alloc = rt.alloc();
-    expect_changed(&rt, alloc, 41, 44, head(62));
-    expect_changed(&rt, alloc, 44, 45, head(41));
-    expect_changed(&rt, alloc, 45, 46, short(56));
-    expect_changed(&rt, alloc, 46, 49, short(49));
-    expect_changed(&rt, alloc, 49, 50, head(51));
-    expect_changed(&rt, alloc, 50, 51, short(60));
-    expect_changed(&rt, alloc, 51, 52, short(62));
-    expect_changed(&rt, alloc, 52, 55, short(55));
-    expect_changed(&rt, alloc, 55, 56, None);
-    expect_changed(&rt, alloc, 56, 57, ordinal(56));
+    expect_changed(&rt, alloc, 41, 44, head(62))?;
+    expect_changed(&rt, alloc, 44, 45, head(41))?;
+    expect_changed(&rt, alloc, 45, 46, short(56))?;
+    expect_changed(&rt, alloc, 46, 49, short(49))?;
+    expect_changed(&rt, alloc, 49, 50, head(51))?;
+    expect_changed(&rt, alloc, 50, 51, short(60))?;
+    expect_changed(&rt, alloc, 51, 52, short(62))?;
+    expect_changed(&rt, alloc, 52, 55, short(55))?;
+    expect_changed(&rt, alloc, 55, 56, None)?;
+    expect_changed(&rt, alloc, 56, 57, ordinal(56))?;
+    Ok(())
 }
 
 #[test]
-fn each_changed_byte_behind_them_is_seen(rt: HostRuntime) {
+fn each_changed_byte_behind_them_is_seen(rt: HostRuntime) -> Result<(), Fail> {
     let alloc = rt.alloc();
-    expect_changed(&rt, alloc, 57, 58, short(64));
-    expect_changed(&rt, alloc, 58, 61, short(61));
-    expect_changed(&rt, alloc, 61, 62, None);
-    expect_changed(&rt, alloc, 62, 63, ordinal(62));
-    expect_changed(&rt, alloc, 63, 67, short(67));
+    expect_changed(&rt, alloc, 57, 58, short(64))?;
+    expect_changed(&rt, alloc, 58, 61, short(61))?;
+    expect_changed(&rt, alloc, 61, 62, None)?;
+    expect_changed(&rt, alloc, 62, 63, ordinal(62))?;
+    expect_changed(&rt, alloc, 63, 67, short(67))?;
+    Ok(())
 }
 
 #[test]
 fn bytes_left_over_are_told_last(rt: HostRuntime) -> Result<(), Fail> {
     let alloc = rt.alloc();
     let mut writer = Writer::new(alloc);
-    writer.put_raw(&SMALL)?;
+    writer.put_raw(small(alloc)?.as_slice())?;
     writer.put_u8(0)?;
     let rest = Some(ProofError::Frame(BorshError::Rest { at: 67 }));
     assert_eq!(rt; refusal(alloc, writer.into_text().as_slice()), rest);
