@@ -6,4 +6,3 @@ pub mod IdText
 pub mod Numbers
 pub mod Events
 pub mod FirstLine
-pub mod Feeding

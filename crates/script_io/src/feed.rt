@@ -64,11 +64,7 @@ impl Feed {
 }
 
 /// Reads on until nothing is left. `before` bytes of the input came before the window.
-fn read_all<S: Source>(
-    window: &mut Window,
-    source: &mut S,
-    before: u64,
-) -> Result<(), FeedError>
+fn read_all<S: Source>(window: &mut Window, source: &mut S, before: u64) -> Result<(), FeedError>
     requires { before ≤ longest_input }
     ensures start { OnOk result (window.new.start ≡ 0) }
     ensures extends { Extends (drop window.old.start window.old.bytes.items) (S.left source.old) (drop window.new.start window.new.bytes.items) (S.left source.new) }
