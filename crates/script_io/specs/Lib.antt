@@ -10,5 +10,7 @@ pub mod StdStreams
 pub mod LinesStates
 -- the window in which a line is looked for
 pub mod Windows
+-- inputs that are taken whole
+pub mod FeedStates
 -- commands, events and errors as the definitions have them
 pub mod Meanings

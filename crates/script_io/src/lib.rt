@@ -1,11 +1,14 @@
-//! Input and output: sources and sinks of bytes that count their faults, lines off a source, what
-//! the lines of a script and the command words ask for, and numbers and byte strings as printed.
+//! Input and output: sources and sinks of bytes that count their faults, lines and whole inputs off
+//! a source, what the lines of a script and the command words ask for, and numbers and byte strings
+//! as printed.
 #![tactic(auto)]
 
 mod buffer;
 mod command;
 mod event;
 mod event_words;
+mod feed;
+mod feed_error;
 mod hex_bytes;
 mod ids;
 mod line_error;
@@ -23,6 +26,8 @@ mod words;
 pub use buffer::Buffer;
 pub use command::{Command, CommandError, read_command};
 pub use event::{Event, EventError, read_event};
+pub use feed::Feed;
+pub use feed_error::FeedError;
 pub use line_error::LineError;
 pub use lines::Lines;
 pub use mem_sink::MemSink;
@@ -34,5 +39,7 @@ pub use std_streams::{StdSink, StdSource};
 
 #[cfg(test)]
 mod event_tests;
+#[cfg(test)]
+mod feed_tests;
 #[cfg(test)]
 mod tests;

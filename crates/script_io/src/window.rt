@@ -16,7 +16,7 @@ const PIECE: usize = 65536;
 
 const LONGEST_LINE: u64 = 8400000;
 
-const LONGEST_INPUT: u64 = 1073741824;
+pub const LONGEST_INPUT: u64 = 1073741824;
 
 /// The bytes of an input that came and are not handed out: those from `start` on.
 #[derive(Debug, Drop)]
@@ -68,7 +68,7 @@ impl Window {
     }
 
     /// Reads another piece behind the bytes, and answers how many bytes it has.
-    fn fill<S: Source>(&mut self, source: &mut S) -> Result<usize, LineError>
+    pub fn fill<S: Source>(&mut self, source: &mut S) -> Result<usize, LineError>
         ensures start { self.new.start ≡ 0 }
         ensures takes { IfOk result (λ n. IfSome (S.left source.old) (λ left.
             Takes left (S.left source.new) (drop self.old.start self.old.bytes.items) self.new.bytes.items n)) }

@@ -1,33 +1,14 @@
 -- The first text out of order, as a loop over places finds it.
-use Rattle.std.proofs.Common.{◌≡◌, ℕ, ◌+◌, ◌-◌, ◌<◌, ◌≤◌, Bool, true, false, not, if◌then◌else◌, List, [], ◌∷◌, length, drop, Bor, slice_get, get_or, None, Some, Ordering, Less, Equal, Greater, refl, sym, ap, subst, ◌∙◌, arith}
+use Rattle.std.proofs.Common.{◌≡◌, ℕ, ◌+◌, ◌-◌, ◌<◌, ◌≤◌, Bool, true, false, if◌then◌else◌, List, [], ◌∷◌, length, drop, Bor, slice_get, get_or, None, Some, refl, sym, ap, subst, ◌∙◌, arith}
 use Rattle.std.proofs.lemmas.List.{drop_more, length-map}
 use Rattle.std.proofs.Math.ListN.{get_or-map, drop_of_length-le}
 use Rattle.std.proofs.lemmas.Option.{slice_get-get_or, get_or_from_slice_get}
-use Rattle.std.specs.Ordering.{nat_cmp, is_lt, is_le, is_some_and, ordering_reverse}
-use Rattle.std.specs.Cmp.Lexicographic.{slice_cmp, slice_partial_cmp, nat_list_cmp_total, lists_agrees}
 use Rattle.partial_model.specs.Texts.{is_above, fall_behind, first_fall}
 use Rattle.text_store.proofs.Listing.{bytes_of}
 
 -- up to a place no text is out of order
 pub record NoFallUpTo (texts : List (List ℕ)) (place : ℕ) : Type 0 where
   pub told : (earlier : List ℕ) → slice_get texts (place - 1) ≡ Some earlier → first_fall texts ≡ fall_behind earlier place (drop place texts)
-
--- ---- one comparison
-
-abbrev not_above : List ℕ → List ℕ → Bool
-not_above t earlier = is_some_and is_le (slice_partial_cmp (λ (x y : ℕ). Some (nat_cmp x y)) t earlier)
-
-turned : (o : Ordering) → is_lt o ≡ not (is_le (ordering_reverse o))
-turned Less = refl
-turned Equal = refl
-turned Greater = refl
-
-above_told : (t earlier : List ℕ) (r : Bool) → r ≡ not_above t earlier → is_above t earlier ≡ not r
-above_told t earlier r is =
-    let same : not_above t earlier ≡ is_le (slice_cmp nat_cmp t earlier) = ap (is_some_and is_le) (lists_agrees (λ x y. refl) t earlier) in
-    turned (slice_cmp nat_cmp earlier t) ∙ ap (λ o. not (is_le o)) (sym (nat_list_cmp_total.antisymm t earlier)) ∙ ap not (sym (is ∙ same))
-
--- ---- the loop
 
 module _ (texts : List (Bor (List ℕ))) (place : ℕ) (d : Bor (List ℕ)) (from : 1 ≤ place) (within : place < length texts) (h : NoFallUpTo (bytes_of texts) place) where
   long : length (bytes_of texts) ≡ length texts
@@ -43,16 +24,16 @@ module _ (texts : List (Bor (List ℕ))) (place : ℕ) (d : Bor (List ℕ)) (fro
   unfolding fall_behind
   step = before ∙ ap (fall_behind (get_or texts (place - 1) d).now place) here
 
-  pub fall_found : (r : Bool) → r ≡ true → r ≡ not_above (get_or texts place d).now (get_or texts (place - 1) d).now → Some place ≡ first_fall (bytes_of texts)
-  fall_found r found is = sym (step ∙ rw (above_told (get_or texts place d).now (get_or texts (place - 1) d).now r is ∙ ap not found) refl)
+  pub fall_found : (r : Bool) → r ≡ false → r ≡ is_above (get_or texts place d).now (get_or texts (place - 1) d).now → Some place ≡ first_fall (bytes_of texts)
+  fall_found r found is = sym (step ∙ rw (sym is ∙ found) refl)
 
-  pub no_fall : (r : Bool) → r ≡ false → r ≡ not_above (get_or texts place d).now (get_or texts (place - 1) d).now → NoFallUpTo (bytes_of texts) (place + 1)
+  pub no_fall : (r : Bool) → r ≡ true → r ≡ is_above (get_or texts place d).now (get_or texts (place - 1) d).now → NoFallUpTo (bytes_of texts) (place + 1)
   no_fall r none is = record {
     told = λ earlier at.
         let back : place + 1 - 1 ≡ place = omega arith in
         let one : get_or (bytes_of texts) place d.now ≡ earlier = get_or_from_slice_get (bytes_of texts) place earlier d.now (subst (λ i. slice_get (bytes_of texts) i ≡ Some earlier) back at) in
         let same : (get_or texts place d).now ≡ earlier = sym (get_or-map (λ (t : Bor (List ℕ)). t.now) texts place d) ∙ one in
-        step ∙ rw (above_told (get_or texts place d).now (get_or texts (place - 1) d).now r is ∙ ap not none) (ap (λ (t : List ℕ). fall_behind t (place + 1) (drop (place + 1) (bytes_of texts))) same);
+        step ∙ rw (sym is ∙ none) (ap (λ (t : List ℕ). fall_behind t (place + 1) (drop (place + 1) (bytes_of texts))) same);
   }
 
 pub no_fall_at_all : (texts : List (Bor (List ℕ))) (place : ℕ) → 1 ≤ place → length texts ≤ place → (1 ≤ length texts → place ≤ length texts) → NoFallUpTo (bytes_of texts) place → None ≡ first_fall (bytes_of texts)

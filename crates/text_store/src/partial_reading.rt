@@ -4,7 +4,7 @@ ghost use Rattle.std.specs.Prelude.{◌≡◌, ◌^◌, ◌<◌, map, length, If
 ghost use Rattle.std.specs.List.{AllByRecursion};
 ghost use Rattle.record_model.specs.Fields.{vector_at};
 ghost use Rattle.base_core.specs.Reading.{Follows};
-ghost use Rattle.partial_model.specs.Texts.{first_fall};
+ghost use Rattle.partial_model.specs.Texts.{first_fall, is_above};
 ghost use Rattle.partial_model.specs.Partial.{texts_at, listed_at};
 ghost use Rattle.text_store.specs.PartialStates.{Lists};
 
@@ -62,9 +62,16 @@ pub(crate) fn fall_among(texts: &[&[u8]]) -> Option<u64>
     ensures { result ≡ first_fall (map (λ text. text.now) texts.now) }
 {
     for place in 1..texts.len() {
-        if texts[place] <= texts[place - 1] {
+        if !rises(texts[place - 1], texts[place]) {
             return Some(place as u64);
         }
     }
     None
+}
+
+/// Whether a text is above an earlier one.
+fn rises(earlier: &[u8], text: &[u8]) -> bool
+    ensures { result ≡ is_above text.now earlier.now }
+{
+    earlier < text
 }

@@ -1,0 +1,69 @@
+-- Reading so many keys, one after the other.
+use Rattle.std.proofs.Common.{◌≡◌, ℕ, suc, ◌+◌, ◌-◌, ◌<◌, List, [], ◌∷◌, ◌++◌, length, Ok, Err, refl, sym, ap, subst, ◌∙◌, arith, append_assoc, length-append}
+use Rattle.std.proofs.lemmas.List.{append-nil}
+use Rattle.std.specs.List.{AllByRecursion}
+use Rattle.byte_model.specs.Nibbles.{longest_key}
+use Rattle.byte_model.proofs.Lists.{AllByRecursion-append}
+use Rattle.record_model.specs.Fields.{Cursor, ◌>>=◌}
+use Rattle.partial_model.specs.Recording.{RecordingFault, ReadHead, IsKey, most_reads, count_within, vector_within, keys_at, reads_at}
+
+-- what was read, and then what a reading gives
+abbrev pub joined : {X : Type 0} → List X → ReadHead (List X) → ReadHead (List X)
+joined done (Ok r) = Ok (done ++ r.0, r.1)
+joined done (Err e) = Err e
+
+pub joined-nothing : {X : Type 0} (read : ReadHead (List X)) → joined [] read ≡ read
+joined-nothing (Ok r) = refl
+joined-nothing (Err e) = refl
+
+-- one item, and then the others
+pub joined-one : {X : Type 0} (done : List X) (x : X) (read : ReadHead (List X)) → joined done (read >>= (λ others. Ok (x ∷ others.0, others.1))) ≡ joined (done ++ x ∷ []) read
+joined-one done x (Ok r) = ap (λ all. Ok (all, r.1)) (sym (append_assoc done (x ∷ []) r.0))
+joined-one done x (Err e) = refl
+
+-- after n keys of so many, the reading is told by these keys and the reading of those that are left
+pub record ReadsKeys (start : Cursor) (count : ℕ) (keys : List (List ℕ)) (n : ℕ) (now : Cursor) : Type 0 where
+  pub told : keys_at count start ≡ joined keys (keys_at (count - n) now)
+  pub long : length keys ≡ n
+  pub each : AllByRecursion IsKey keys
+
+pub ReadsKeys-init : (start : Cursor) (count : ℕ) (keys : List (List ℕ)) → keys ≡ [] → ReadsKeys start count keys 0 start
+ReadsKeys-init start count keys none =
+    let whole : count ≡ count - 0 = omega arith in
+    subst (λ (ks : List (List ℕ)). ReadsKeys start count ks 0 start) (sym none)
+    (record { told = ap (λ m. keys_at m start) whole ∙ sym (joined-nothing (keys_at (count - 0) start)); long = refl; each = tt })
+
+one_more : (n : ℕ) (now next : Cursor) (key : List ℕ) (done : List (List ℕ)) → vector_within longest_key now ≡ Ok (key, next) → joined done (keys_at (suc n) now) ≡ joined (done ++ key ∷ []) (keys_at n next)
+unfolding keys_at
+one_more n now next key done e = rw e (joined-one done key (keys_at n next))
+
+pub ReadsKeys-more : (start now next : Cursor) (count : ℕ) (keys : List (List ℕ)) (n : ℕ) (key : List ℕ) → n < count → ReadsKeys start count keys n now → vector_within longest_key now ≡ Ok (key, next) → IsKey key → ReadsKeys start count (keys ++ key ∷ []) (n + 1) next
+ReadsKeys-more start now next count keys n key more h e is =
+    let left : count - n ≡ suc (count - (n + 1)) = omega arith in
+    record {
+      told = h.told ∙ ap (λ m. joined keys (keys_at m now)) left ∙ one_more (count - (n + 1)) now next key keys e;
+      long = omega (arith, length-append keys (key ∷ []), h.long);
+      each = AllByRecursion-append IsKey keys (key ∷ []) h.each (is, tt);
+    }
+
+pub ReadsKeys-all : (start now : Cursor) (count : ℕ) (keys : List (List ℕ)) (n : ℕ) → count ≡ n → ReadsKeys start count keys n now → keys_at count start ≡ Ok (keys, now)
+unfolding keys_at
+ReadsKeys-all start now count keys n all h =
+    let left : count - n ≡ 0 = omega arith in
+    h.told ∙ ap (λ m. joined keys (keys_at m now)) left ∙ ap (λ (done : List (List ℕ)). Ok (done, now)) (append-nil keys)
+
+pub ReadsKeys-fault : (start now : Cursor) (count : ℕ) (keys : List (List ℕ)) (n : ℕ) → n < count → ReadsKeys start count keys n now → (fault : RecordingFault) → vector_within longest_key now ≡ Err fault → keys_at count start ≡ Err fault
+unfolding keys_at
+ReadsKeys-fault start now count keys n more h fault e =
+    let left : count - n ≡ suc (count - (n + 1)) = omega arith in
+    h.told ∙ ap (λ m. joined keys (keys_at m now)) left ∙ rw e refl
+
+-- ---- behind their number
+
+pub no_count : (c : Cursor) (fault : RecordingFault) → count_within most_reads c ≡ Err fault → reads_at c ≡ Err fault
+unfolding reads_at
+no_count c fault e = rw e refl
+
+pub counted : (c d : Cursor) (count : ℕ) → count_within most_reads c ≡ Ok (count, d) → reads_at c ≡ keys_at count d
+unfolding reads_at
+counted c d count e = rw e refl

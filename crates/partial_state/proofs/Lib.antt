@@ -1,0 +1,7 @@
+pub mod Answers
+pub mod Operations
+pub mod Keys
+pub mod Batches
+pub mod Changes
+pub mod Recordings
+pub mod Written

@@ -1,0 +1,12 @@
+use Rattle.std.proofs.Common.{None}
+use Rattle.batch_model.specs.Changes.{most_changes}
+use Rattle.partial_model.specs.Recording.{count_within, changes_from, changes_at}
+use Rattle.partial_state.proofs.Answers.{refused_reads, reads_onward}
+use Rattle.partial_state.proofs.Changes.{no_count, counted}
+use Rattle.partial_state.proofs.reading.read_changes.Goals as goal
+
+pub returns-in_err-count-clause-read : goal.returns-in_err-count-clause-read
+returns-in_err-count-clause-read c = refused_reads _ c.from_residual.result c.in_err-count.field-0.0 c.args.reader.now c.read_count.new.reader changes_at (count_within most_changes c.args.reader.now) c.from_residual.ensures.1 (no_count c.args.reader.now) c.in_err-count.ensures.read
+
+pub returns-clause-read : goal.returns-clause-read
+returns-clause-read c = reads_onward _ c.read_batch.result c.args.reader.now c.read_count.new.reader c.read_batch.new.reader changes_at (changes_from c.in_ok-count.count None) (counted c.args.reader.now c.read_count.new.reader c.in_ok-count.count c.in_ok-count.ensures.read) c.read_batch.ensures.read

@@ -1,0 +1,19 @@
+//! Recordings: a root, keys that are read, a batch of changes, and a partial state. How the reads
+//! and changes are gathered, and how recordings are read from bytes and written.
+#![tactic(auto)]
+
+mod fields;
+mod laws;
+mod ops;
+mod proof;
+mod proof_error;
+mod reading;
+mod writing;
+
+pub use laws::most_reads_are_those_of_the_definition;
+pub use ops::{MOST_READS, Ops};
+pub use proof::Proof;
+pub use proof_error::ProofError;
+
+#[cfg(test)]
+mod tests;
