@@ -1,5 +1,5 @@
 ghost use Rattle.std.specs.Prelude.{◌≡◌, ◌+◌, ◌≤◌, ◌<◌, ◌↔◌, ℕ, List, true, false, length, Some, None, IfOk, OnOk, OnErr, Err, IsErr};
-ghost use Rattle.std.specs.Option.{option_copied, option_map, IsSomeAnd};
+ghost use Rattle.std.specs.Option.{option_and_then, option_copied, option_map, IsSomeAnd};
 ghost use Rattle.std.specs.FinMap.{empty, entries, get, insert};
 ghost use Rattle.batch_model.specs.Changes.{after};
 ghost use Rattle.fork_model.specs.Trees.{BlockTree, Header, IsTree, block_fault, is_live};
@@ -9,7 +9,9 @@ ghost use Rattle.fork_tree.specs.Answers.{IsPlan};
 ghost use Rattle.flat_store.specs.Flats.{HasSameBlocks, IsFlatOf, keys_changed, laid_over, left_of, map_of};
 
 use crate::errors::{PairsError, PairsOverError};
-use base_core::{Changes, Digest, Pairs, Text};
+use crate::maps::{note, note_way, pairs_of};
+use crate::moves::{forget, keys_in, lay_passed};
+use base_core::{Changes, Digest, Limits, Pairs, Text};
 use fork_tree::{Forks, Move, NotLive};
 use std::alloc::{AllocError, Global};
 use std::collections::HashMap;
@@ -66,7 +68,27 @@ impl Flat {
         if !forks.is_live(id) {
             return Err(NotLive);
         }
-        Ok(None)
+        let mut at = *id;
+        while let Some(prev) = forks.prev_of(&at) {
+            if let Some(value) = self.change(&at, key) {
+                return Ok(value);
+            }
+            at = prev;
+        }
+        match self.head.get(key) {
+            Some(value) => Ok(Some(value.as_slice())),
+            None => Ok(None),
+        }
+    }
+
+    /// What a key becomes by the delta of a block, if it has one that changes the key.
+    fn change(&self, id: &Digest, key: &[u8]) -> Option<Option<&[u8]>>
+        ensures { option_map option_copied result ≡ option_and_then (λ changes. get changes key.now) (get self.now.deltas id.now.0) }
+    {
+        match self.deltas.get(id) {
+            Some(changes) => changes.get(key),
+            None => None,
+        }
     }
 
     /// Makes room for the delta of one more block.
@@ -108,7 +130,11 @@ impl Flat {
         ensures room { self.old.spare ≤ self.new.spare }
         ensures state { OnOk result ((blocks : ForkState) (id : List ℕ) → IsForkState blocks → IsPlan (tree_of_blocks blocks) id m.now → IsFlatOf blocks self.old → IsFlatOf (head_moved blocks id) self.new) }
     {
-        Err(AllocError)
+        // A key takes one place of the head's table at most.
+        self.head.reserve(keys_in(&self.deltas, &m.passed))?;
+        lay_passed(&mut self.head, &mut self.deltas, &m.passed);
+        forget(&mut self.deltas, &m.dropped);
+        Ok(())
     }
 
     /// The map of a live block, which has no more pairs than a state may have.
@@ -122,7 +148,15 @@ impl Flat {
         if !forks.is_live(id) {
             return Err(PairsError::NotLive);
         }
-        Err(PairsError::NoMemory)
+        let mut newest = HashMap::new(alloc);
+        note_way(alloc, &mut newest, forks, &self.deltas, id)?;
+        match pairs_of(alloc, &self.head, newest, Limits::FULL.pairs) {
+            Ok(pairs) => Ok(pairs),
+            Err(PairsOverError::NoMemory) => Err(PairsError::NoMemory),
+            // The map is not too large, and the block is live.
+            Err(PairsOverError::Full) => unreachable!(),
+            Err(PairsOverError::NotLive) => unreachable!(),
+        }
     }
 
     /// The map of a live block with changes laid over, if it has at most so many pairs.
@@ -146,7 +180,10 @@ impl Flat {
         if !forks.is_live(prev) {
             return Err(PairsOverError::NotLive);
         }
-        Err(PairsOverError::NoMemory)
+        let mut newest = HashMap::new(alloc);
+        note(alloc, &mut newest, changes)?;
+        note_way(alloc, &mut newest, forks, &self.deltas, prev)?;
+        pairs_of(alloc, &self.head, newest, most)
     }
 
     /// How many keys all deltas change, each delta by itself. It takes no memory.
@@ -154,6 +191,10 @@ impl Flat {
         ensures entries { result ≡ keys_changed self.now.deltas }
         ensures state { (blocks : ForkState) → IsForkState blocks → IsFlatOf blocks self.now → result ≡ kept_changes blocks }
     {
-        0
+        let mut keys = 0;
+        for changes in self.deltas.values() {
+            keys += changes.len();
+        }
+        keys
     }
 }

@@ -5,6 +5,8 @@
 mod errors;
 mod flat;
 mod laws;
+mod maps;
+mod moves;
 
 pub use errors::{PairsError, PairsOverError};
 pub use flat::Flat;
