@@ -1,5 +1,6 @@
 pub mod ByteMaps
 pub mod Faults
+pub mod HashTables
 pub mod KeptMaps
 pub mod ChangeMaps
 pub mod PassedOn

@@ -1,0 +1,12 @@
+-- hash tables and maps
+pub mod Tables
+-- changes laid over a map, one after the other
+pub mod Laying
+-- ids that are gone through, and the changes under them
+pub mod Passing
+-- a map that is filled with pairs, entry by entry
+pub mod Filling
+-- the pairs of a map with changes laid over
+pub mod Puts
+-- changes gathered from several blocks, the newest first
+pub mod Noting
