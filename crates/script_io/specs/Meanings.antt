@@ -3,7 +3,7 @@ use Rattle.std.specs.Prelude.{◌≡◌, Option, Some, None, IsSome, Result, Ok,
 use Rattle.script_model.specs.Words as words
 use Rattle.script_model.specs.Lines as lines
 use Rattle.script_io.specs.declared.command.Command.{Command}
-use Rattle.script_io.specs.declared.command.Command.TheVariants.{Root}
+use Rattle.script_io.specs.declared.command.Command.TheVariants.{Root, Apply}
 use Rattle.script_io.specs.declared.event.Event.{Event}
 use Rattle.script_io.specs.declared.event.Event.TheVariants.{Nothing, Open, Set, Del, End, Head, Flat}
 use Rattle.script_io.specs.declared.event.EventError.{EventError}
@@ -11,6 +11,7 @@ use Rattle.script_io.specs.declared.event.EventError.TheVariants.{Bad, NoMemory}
 
 abbrev pub command : Command → words.Command
 command Root = words.root
+command Apply = words.apply
 
 abbrev pub event : Event → lines.Event
 event Nothing = lines.nothing

@@ -11,6 +11,8 @@ use thiserror::Error;
 pub enum Command {
     /// The root and the memory usage of a state.
     Root,
+    /// What becomes of a history of blocks, with a reply to each block, head move and reading.
+    Apply,
 }
 
 #[derive(Debug, Drop, Error)]
@@ -29,6 +31,7 @@ pub fn read_command(alloc: Global, words: &[Text]) -> Result<Command, CommandErr
 {
     match words {
         [word] if word.as_slice() == b"root".as_slice() => Ok(Command::Root),
+        [word] if word.as_slice() == b"apply".as_slice() => Ok(Command::Apply),
         _ => Err(CommandError::Bad),
     }
 }

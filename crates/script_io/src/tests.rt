@@ -101,6 +101,7 @@ fn expect_command(
     }
     match read_command(alloc, texts.as_slice()) {
         Ok(Command::Root) => assert_eq!(rt; want, b"root".as_slice(), "{words:?}"),
+        Ok(Command::Apply) => assert_eq!(rt; want, b"apply".as_slice(), "{words:?}"),
         Err(error) => {
             assert!(rt; matches!(error, CommandError::Bad), "{words:?}");
             assert!(rt; want.is_empty(), "{words:?}");
@@ -112,14 +113,16 @@ fn expect_command(
 #[test]
 fn commands(rt: HostRuntime) -> Result<(), Fail> {
     let alloc = rt.alloc();
-    let table: [(&[&[u8]], &[u8]); 7] = [
+    let table: [(&[&[u8]], &[u8]); 9] = [
         (&[b"root"], b"root"),
+        (&[b"apply"], b"apply"),
         (&[], b""),
         (&[b""], b""),
         (&[b"Root"], b""),
         (&[b"roots"], b""),
         (&[b"appl"], b""),
         (&[b"root", b""], b""),
+        (&[b"apply", b"root"], b""),
     ];
     for (words, want) in table {
         expect_command(&rt, alloc, words, want)?;

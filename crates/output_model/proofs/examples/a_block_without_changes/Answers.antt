@@ -8,9 +8,10 @@ use Rattle.fork_model.proofs.Worked.{all_of_forks}
 use Rattle.script_model.specs.Lines.{event_of, line_fault, read_at}
 use Rattle.script_model.specs.Spellings.{hex_bytes, hex_text, key_of, value_of, id_of, number_of}
 use Rattle.output_model.specs.Scripts.{lines_output, script_output}
+use Rattle.output_model.specs.Output.{output_of}
 use Rattle.output_model.specs.Histories.{history_step, history_last, block_refused}
 use Rattle.output_model.proofs.examples.a_block_without_changes.Goals as goal
 
 pub returns : goal.returns
-unfolding script_output lines_output read_at line_fault event_of key_of value_of id_of number_of hex_bytes hex_text history_step history_last block_refused all_of_forks hex_on_literals encode_with digits
+unfolding output_of script_output lines_output read_at line_fault event_of key_of value_of id_of number_of hex_bytes hex_text history_step history_last block_refused all_of_forks hex_on_literals encode_with digits
 returns c = rw (after-none, len-none, after-none, root-empty, get-none) refl

@@ -13,3 +13,7 @@ returns-clause-other c = λ limits input. refl
 pub returns-clause-second : goal.returns-clause-second
 unfolding output_of
 returns-clause-second c = λ limits input. refl
+
+pub returns-clause-second_apply : goal.returns-clause-second_apply
+unfolding output_of
+returns-clause-second_apply c = λ limits input. refl
