@@ -2,11 +2,17 @@
 //! that go out.
 #![tactic(auto)]
 
+mod apply;
+mod block_error;
+mod blocks;
 mod events;
+mod history;
 mod reply;
+mod reply_lines;
 mod root;
 mod running;
 mod status;
+mod writing;
 
 pub use running::run;
 pub use status::Status;
