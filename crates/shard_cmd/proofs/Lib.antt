@@ -5,5 +5,9 @@ pub mod Scripts
 pub mod Puts
 pub mod RootLines
 pub mod Replies
+-- the command `apply`
+pub mod Histories
+pub mod Sending
+pub mod HistoryEnds
 -- how a run ends
 pub mod Runs

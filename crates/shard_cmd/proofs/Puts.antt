@@ -4,7 +4,7 @@ use Rattle.std.specs.Prelude.{if◌then◌else◌, nat_le, IsOkUnless}
 use Rattle.std.specs.FinMap.{len, contains_key, len-entries}
 use Rattle.std.proofs.lemmas.Bool.{le-ltb}
 use Rattle.script_model.specs.Lines as lines
-use Rattle.script_model.specs.Bounds.{IsAsked}
+use Rattle.script_model.specs.Bounds.{IsAsked, IsKey}
 use Rattle.byte_model.specs.Node.{longest_value}
 use Rattle.trie_model.specs.State.{longest_key, IsPair}
 use Rattle.base_core.specs.declared.put_error.PutError.{PutError}
@@ -46,6 +46,16 @@ pub put_answer : {X M : Type 0} (held : KeyMap X) (most : ℕ) (key value : List
     → IsPut (refusal_of held most key value) old new next r → Answer old new next (has_no_room held most key) r
 put_answer held most key value old new next r k v p = answer_of old new next (has_no_room held most key) r (subst (λ (o : Option PutError). IsPut o old new next r) (refusal-within held most key value k v) p)
 
+pub answer-ok : {M : Type 0} (old new next : M) (full : Bool) (r : Result Unit PutError) (done : Unit) → Answer old new next full r → r ≡ Ok done → (full ≡ false) × (new ≡ next)
+answer-ok old new next full r done (put is room h) e = (room, h)
+answer-ok old new next full r done (refused is room h) e = absurd (cc (is, e))
+answer-ok old new next full r done (no_memory is room h) e = absurd (cc (is, e))
+
+pub answer-full : {M : Type 0} (old new next : M) (full : Bool) (r : Result Unit PutError) → Answer old new next full r → r ≡ Err Full → full ≡ true
+answer-full old new next full r (put is room h) e = absurd (cc (is, e))
+answer-full old new next full r (refused is room h) e = room
+answer-full old new next full r (no_memory is room h) e = absurd (cc (is, e))
+
 pub not_long : {M : Type 0} (old new next : M) (full : Bool) (r : Result Unit PutError) → Answer old new next full r → (n : ℕ) → (r ≡ Err (KeyLong n) → ⊥) × (r ≡ Err (ValueLong n) → ⊥)
 not_long old new next full r (put is room h) n = (λ e. absurd (cc (is, e)), λ e. absurd (cc (is, e)))
 not_long old new next full r (refused is room h) n = (λ e. absurd (cc (is, e)), λ e. absurd (cc (is, e)))
@@ -82,6 +92,11 @@ pair_laid number old new key value r (no_memory is room h) = rw is record {
 pub pair_of : (asked : lines.Event) (key value : List ℕ) → asked ≡ lines.set key value → IsAsked asked → IsPair (key, value)
 unfolding IsAsked
 pair_of asked key value e h = subst IsAsked e h
+
+-- and what a line deletes is a key
+pub deleted_key : (asked : lines.Event) (key : List ℕ) → asked ≡ lines.delete key → IsAsked asked → IsKey key
+unfolding IsAsked
+deleted_key asked key e h = subst IsAsked e h
 
 pub event_answer : (old new : PairMap) (asked : Event) (key value : List ℕ) (r : Result Unit PutError) → event asked ≡ lines.set key value → IsAsked (event asked) → IsPut (refusal old key value) old new (laid old key value) r
     → Answer old new (laid old key value) (is_full old key) r

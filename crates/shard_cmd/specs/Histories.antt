@@ -80,9 +80,10 @@ Moves limits forks id new (Err move_error.NotLive) = (is_live (tree_of_blocks fo
 Moves limits forks id new (Err move_error.NoMemory) = Keeps limits forks new
 
 -- what comes of reading a key
-abbrev pub ReadsKey : ForkState → (id key : List ℕ) → Result (Option (Bor (List ℕ))) NotLive → Type 0
+abbrev pub ReadsKey : ForkState → (id key : List ℕ) → Result (Option (Bor (List ℕ))) MoveError → Type 0
 ReadsKey forks id key (Ok found) = IsSomeAnd (state_at forks id) (λ state. get state key ≡ option_copied found)
-ReadsKey forks id key (Err error) = state_at forks id ≡ None
+ReadsKey forks id key (Err move_error.NotLive) = state_at forks id ≡ None
+ReadsKey forks id key (Err move_error.NoMemory) = ⊤
 
 -- ---- a history
 

@@ -7,7 +7,7 @@ ghost use Rattle.shard_cmd.specs.Histories.{Keeps, AreKept, Offers, Moves, Reads
 
 use crate::block_error::BlockError;
 use base_core::{Changes, Digest, Limits};
-use fork_tree::{Forks, MoveError, NotLive};
+use fork_tree::{Forks, MoveError};
 use std::alloc::{AllocError, Global};
 
 /// The live blocks with their states, and how many pairs a state may have at most.
@@ -59,10 +59,10 @@ impl Blocks {
     }
 
     /// The value of a key at a live block, if it has one. It takes no memory.
-    pub fn read(&self, id: &Digest, key: &[u8]) -> Result<Option<&[u8]>, NotLive>
+    pub fn read(&self, id: &Digest, key: &[u8]) -> Result<Option<&[u8]>, MoveError>
         requires { AreKept self.now }
         ensures { (limits : RunLimits) (forks : ForkState) → Keeps limits forks self.now → ReadsKey forks id.now.0 key.now result }
     {
-        Err(NotLive)
+        Err(MoveError::NoMemory)
     }
 }

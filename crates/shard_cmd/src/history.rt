@@ -12,7 +12,7 @@ ghost use Rattle.shard_cmd.specs.Histories.{Keeps, AreKept, IsOpened, Steps, rep
 use crate::blocks::Blocks;
 use crate::reply_lines::{put_accepted, put_moved, put_not_moved, put_refused, put_value};
 use base_core::{Changes, Digest, Fault, Limits, PutError, Text};
-use fork_tree::{MoveError, NotLive};
+use fork_tree::MoveError;
 use script_io::{Buffer, Event, put};
 use std::alloc::Global;
 
@@ -199,7 +199,8 @@ fn read_key(
     match blocks.read(id, key) {
         Ok(Some(value)) => replied(put_value(replies, value)),
         Ok(None) => replied(put(replies, b"flat none\n")),
-        Err(NotLive) => replied(put(replies, b"flat refused not-live\n")),
+        Err(MoveError::NotLive) => replied(put(replies, b"flat refused not-live\n")),
+        Err(MoveError::NoMemory) => Err(Halt::NoMemory),
     }
 }
 

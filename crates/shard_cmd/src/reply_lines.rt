@@ -53,9 +53,7 @@ pub fn put_not_moved(replies: &mut Buffer, id: &Digest) -> Result<(), Fault>
 {
     put(replies, b"head ")?;
     put_digits(replies, id)?;
-    put(replies, b" refused not-live")?;
-    put(replies, b"\n")?;
-    Ok(())
+    put(replies, b" refused not-live\n")
 }
 
 /// The line `flat V`.
