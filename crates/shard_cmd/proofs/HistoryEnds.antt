@@ -25,11 +25,11 @@ module _ (limits : RunLimits) (left after new_after : Option (List ℕ)) (replie
   -- behind the last line
   pub ends_at_end : (kept : List ℕ) (number : ℕ) → number ≡ old.lines + 1 → IfSome after (λ left. NextIs (old.pending ++ left) old new new_after (Ok None)) → Sends before now replies kept
       → IfSome left (λ input. EndsHistory (apply_output limits input) before now kept (whole_or_open opened number))
+  unfolding history_last
   ends_at_end kept number n h s = by_opened opened (ends_whole (apply_script limits) left after new_after replies old new (history_of forks opened) u h)
     where
       by_opened : (opened : Option Opened) → IfSome left (λ input. apply_output limits input ≡ behind replies (history_last nothing_more (old.lines + 1) (history_of forks opened)))
           → IfSome left (λ input. EndsHistory (apply_output limits input) before now kept (whole_or_open opened number))
-      unfolding history_last
       by_opened None e = reaches (apply_output limits) before now replies left (record { bytes = []; ending = done }) kept e s
       by_opened (Some block) e = rw n (reaches (apply_output limits) before now replies left (syntax_at (old.lines + 1)) kept e s)
 

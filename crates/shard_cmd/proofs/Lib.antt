@@ -11,3 +11,4 @@ pub mod Sending
 pub mod HistoryEnds
 -- how a run ends
 pub mod Runs
+pub mod HistoryRuns

@@ -39,7 +39,7 @@ Sends-stops None after bytes kept s = tt
 Sends-stops (Some b) after bytes kept s = record { prefix = s.0; rest = kept; parts = s.2; told = s.1 }
 
 -- a prefix of the replies is one of the output
-prefix-behind : (before after : Option (List ℕ)) (replies : List ℕ) (output last : Output) → output ≡ behind replies last → IfSome before (λ b. AppendsPrefix b after replies) → IfSome before (λ b. AppendsPrefix b after output.bytes)
+pub prefix-behind : (before after : Option (List ℕ)) (replies : List ℕ) (output last : Output) → output ≡ behind replies last → IfSome before (λ b. AppendsPrefix b after replies) → IfSome before (λ b. AppendsPrefix b after output.bytes)
 prefix-behind None after replies output last e p = tt
 prefix-behind (Some b) after replies output last e p = record {
   prefix = p.prefix;

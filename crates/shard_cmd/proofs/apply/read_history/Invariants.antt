@@ -7,8 +7,8 @@ use Rattle.shard_cmd.specs.Sending.{Sends}
 use Rattle.shard_cmd.proofs.Scripts.{IsUpTo}
 use Rattle.shard_cmd.proofs.apply.read_history.Given as goal
 
-abbrev pub invariant-loop-lines : goal.invariant-loop-lines
-invariant-loop-lines g l = record {
+abbrev pub invariant-loop-event : goal.invariant-loop-event
+invariant-loop-event g l = record {
   forks : ForkState;
   replied : List ℕ;
   keeps : Keeps (run_limits l.fn.limits) forks l.blocks;
@@ -19,5 +19,5 @@ invariant-loop-lines g l = record {
   sink_faults : g.K.Sink.faults l.sink ≡ g.K.Sink.faults l.fn.sink;
 }
 
-abbrev pub decreases-loop-lines : goal.decreases-loop-lines
-decreases-loop-lines g l = 2 ^ 30 - l.lines.before
+abbrev pub decreases-loop-event : goal.decreases-loop-event
+decreases-loop-event g l = 2 ^ 30 - l.lines.before

@@ -11,5 +11,5 @@ pub returns-in-Some : goal.returns-in-Some
 returns-in-Some c = λ limits forks keeps.
     let refused = c.in-Err.ensures limits forks keeps in
     rw c.replied-in-Some.ensures (block_not_accepted limits forks c.args.block _ _ _ c.in-Some.name.now c.put_refused.result
-      (subst (λ o. IfSome o (λ name. block_refused limits forks (header_of c.args.block.id c.args.block.prev c.args.block.height) c.args.block.changes.changes ≡ Some name)) (sym c.in-Some.ensures) refused.0)
-      refused.1 c.put_refused.ensures)
+    (subst (λ o. IfSome o (λ name. block_refused limits forks (header_of c.args.block.id c.args.block.prev c.args.block.height) c.args.block.changes.changes ≡ Some name)) (sym c.in-Some.ensures) refused.0)
+    refused.1 c.put_refused.ensures)

@@ -15,4 +15,4 @@ returns-in-Ok-None c = λ limits forks keeps.
 pub returns-in-Err-NotLive : goal.returns-in-Err-NotLive
 returns-in-Err-NotLive c = λ limits forks keeps.
     rw c.replied-in-Err-NotLive.ensures (key_not_read limits forks c.args.id.now.0 c.args.key.now c.args.blocks.now _ _ c.put-in-Err-NotLive.result (rw c.in-Err-NotLive.field-0-is at (c.in-Err-NotLive.ensures limits forks keeps)) keeps
-      (appended c.args.replies.now.bytes _ (line_of (codes "flat refused not-live")) c.put-in-Err-NotLive.result c.put-in-Err-NotLive.ensures.written))
+    (appended c.args.replies.now.bytes _ (line_of (codes "flat refused not-live")) c.put-in-Err-NotLive.result c.put-in-Err-NotLive.ensures.written))
