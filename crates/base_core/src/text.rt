@@ -33,7 +33,7 @@ impl Text {
     }
 
     /// Its bytes, given up to the caller. It takes no memory.
-    pub(crate) fn into_bytes(self) -> Vec<u8>
+    pub fn into_bytes(self) -> Vec<u8>
         ensures { result.items ≡ self }
     {
         self.bytes
