@@ -24,7 +24,8 @@ use Rattle.shard_cmd.specs.declared.blocks.Blocks.{Blocks}
 use Rattle.shard_cmd.specs.declared.blocks.Moved.{Moved}
 use Rattle.shard_cmd.specs.declared.history.Opened.{Opened}
 use Rattle.shard_cmd.specs.declared.history.Halt.TheVariants as halt
-use Rattle.shard_cmd.specs.Histories.{Keeps, header_of, open_of, history_of, IsOpened, GoesOn, EndsAt, Steps, IsAccepted, IsMoved, replied_as}
+use Rattle.shard_cmd.specs.Blocks.{Keeps, header_of, IsAccepted, IsMoved}
+use Rattle.shard_cmd.specs.Histories.{open_of, history_of, IsOpened, GoesOn, EndsAt, Steps, replied_as}
 use Rattle.shard_cmd.proofs.Puts.{has_no_room}
 
 -- a buffer has what was put into it

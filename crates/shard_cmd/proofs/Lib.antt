@@ -6,6 +6,8 @@ pub mod Puts
 pub mod RootLines
 pub mod Replies
 -- the command `apply`
+pub mod KeptBlocks
+pub mod Offers
 pub mod Histories
 pub mod Sending
 pub mod HistoryEnds

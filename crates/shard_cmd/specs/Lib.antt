@@ -2,6 +2,7 @@
 pub mod Ends
 pub mod Replies
 pub mod Events
--- histories as they are held, and replies that are gathered
+-- live blocks and histories as they are held, and replies that are gathered
+pub mod Blocks
 pub mod Histories
 pub mod Sending

@@ -1,6 +1,8 @@
 ghost use Rattle.std.specs.Prelude.{◌≡◌};
 ghost use Rattle.std.specs.Option.{option_copied};
-ghost use Rattle.shard_cmd.specs.Histories.{refusal_name};
+ghost use Rattle.shard_cmd.specs.Blocks.{refusal_name, error_of};
+
+use fork_tree::ForkError;
 
 /// Why a block is not accepted.
 #[derive(Clone, Copy, Debug, PartialEq, Eq)]
@@ -31,6 +33,19 @@ impl BlockError {
             BlockError::FullBlocks => Some(b"full-blocks"),
             BlockError::FullPairs => Some(b"full-pairs"),
             BlockError::NoMemory => None,
+        }
+    }
+}
+
+impl From<ForkError> for BlockError {
+    fn from(error: ForkError) -> BlockError
+        ensures { result ≡ error_of error }
+    {
+        match error {
+            ForkError::Known => BlockError::Known,
+            ForkError::NoPrev => BlockError::NoPrev,
+            ForkError::Height => BlockError::Height,
+            ForkError::Full => BlockError::FullBlocks,
         }
     }
 }

@@ -7,12 +7,13 @@ ghost use Rattle.script_io.specs.Meanings.{event};
 ghost use Rattle.script_model.specs.Lines as lines;
 ghost use Rattle.script_model.specs.Bounds.{IsAsked, IsKey};
 ghost use Rattle.shard_cmd.specs.Ends.{run_limits};
-ghost use Rattle.shard_cmd.specs.Histories.{Keeps, AreKept, IsOpened, Steps, replied_as};
+ghost use Rattle.shard_cmd.specs.Blocks.{Keeps, AreKept};
+ghost use Rattle.shard_cmd.specs.Histories.{IsOpened, Steps, replied_as};
 
 use crate::blocks::Blocks;
 use crate::reply_lines::{put_accepted, put_moved, put_not_moved, put_refused, put_value};
 use base_core::{Changes, Digest, Fault, Limits, PutError, Text};
-use fork_tree::MoveError;
+use fork_tree::{MoveError, NotLive};
 use script_io::{Buffer, Event, put};
 use std::alloc::Global;
 
@@ -199,8 +200,7 @@ fn read_key(
     match blocks.read(id, key) {
         Ok(Some(value)) => replied(put_value(replies, value)),
         Ok(None) => replied(put(replies, b"flat none\n")),
-        Err(MoveError::NotLive) => replied(put(replies, b"flat refused not-live\n")),
-        Err(MoveError::NoMemory) => Err(Halt::NoMemory),
+        Err(NotLive) => replied(put(replies, b"flat refused not-live\n")),
     }
 }
 

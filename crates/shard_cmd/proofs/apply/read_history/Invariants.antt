@@ -2,7 +2,8 @@ use Rattle.std.proofs.Common.{◌≡◌, ◌-◌, ◌^◌, ℕ, List}
 use Rattle.fork_model.specs.States.{ForkState}
 use Rattle.output_model.specs.Apply.{apply_script}
 use Rattle.shard_cmd.specs.Ends.{run_limits}
-use Rattle.shard_cmd.specs.Histories.{Keeps, IsOpened, history_of}
+use Rattle.shard_cmd.specs.Blocks.{Keeps}
+use Rattle.shard_cmd.specs.Histories.{IsOpened, history_of}
 use Rattle.shard_cmd.specs.Sending.{Sends}
 use Rattle.shard_cmd.proofs.Scripts.{IsUpTo}
 use Rattle.shard_cmd.proofs.apply.read_history.Given as goal

@@ -1,6 +1,6 @@
 use Rattle.std.proofs.Common.{Some, IfSome, sym, subst, ◌≡◌}
 use Rattle.output_model.specs.Histories.{block_refused}
-use Rattle.shard_cmd.specs.Histories.{header_of}
+use Rattle.shard_cmd.specs.Blocks.{header_of}
 use Rattle.shard_cmd.proofs.Histories.{block_accepted, block_not_accepted}
 use Rattle.shard_cmd.proofs.history.end.Goals as goal
 
