@@ -18,4 +18,6 @@ pub use running::run;
 pub use status::Status;
 
 #[cfg(test)]
+mod apply_tests;
+#[cfg(test)]
 mod tests;
