@@ -1,11 +1,10 @@
 -- How a run ends, by what was written last.
 use Rattle.std.proofs.Common.{◌≡◌, ℕ, List, Option, Some, None, Result, Ok, IfOk, IfSome, inl, inr, refl, sym, ap, subst, ◌∙◌}
-use Rattle.script_model.specs.Words.{Command, root, command_of}
+use Rattle.script_model.specs.Words.{Command, command_of}
 use Rattle.output_model.specs.Root.{root_output}
 use Rattle.output_model.specs.Ends.{Output, Ending, RunLimits}
 use Rattle.output_model.specs.Output.{output_of, command_output}
 use Rattle.script_io.specs.declared.command.Command.{Command as Asked}
-use Rattle.script_io.specs.declared.command.Command.TheVariants.{Root}
 use Rattle.script_io.specs.Meanings.{command}
 use Rattle.shard_cmd.specs.declared.reply.Reply.{Reply}
 use Rattle.shard_cmd.specs.declared.status.Status.{Status}
@@ -39,9 +38,6 @@ pub has_ending : (output : Output) (status end : Status) (before now : ℕ) → 
 has_ending output status end before now e (inl written) = rw (written.0, e) refl
 has_ending output status end before now e (inr fault) = rw fault.0 tt
 
--- a command that was read is `root`
-pub root_read : {E : Type 0} (words : List (List ℕ)) (r : Result Asked E) (found : Asked) → r ≡ Ok found → IfOk r (λ f. command_of words ≡ Some (command f)) → command_of words ≡ Some root
-root_read {E} words r found is h = read found (subst (λ (r : Result Asked E). IfOk r (λ f. command_of words ≡ Some (command f))) is h)
-  where
-    read : (found : Asked) → command_of words ≡ Some (command found) → command_of words ≡ Some root
-    read Root e = e
+-- the command that was read is that of the words
+pub command_read : {E : Type 0} (words : List (List ℕ)) (r : Result Asked E) (found : Asked) → r ≡ Ok found → IfOk r (λ f. command_of words ≡ Some (command f)) → command_of words ≡ Some (command found)
+command_read {E} words r found is h = subst (λ (r : Result Asked E). IfOk r (λ f. command_of words ≡ Some (command f))) is h

@@ -1,159 +1,109 @@
--- The output of a script, event by event.
-use Rattle.std.proofs.Common.{◌≡◌, ℕ, ◌+◌, Bool, true, false, List, [], ◌++◌, length, Option, Some, None, Ok, Err, IfSome, IfOk, refl, sym, ap, subst, ◌∙◌}
-use Rattle.std.specs.Prelude.{if◌then◌else◌}
-use Rattle.std.specs.FinMap.{empty}
+-- The output of a script, event by event, whatever the command is.
+use Rattle.std.proofs.Common.{◌≡◌, ℕ, ◌+◌, List, [], ◌++◌, length, Option, Some, None, Ok, Err, IfSome, refl, sym, ap, subst, ◌∙◌, append_assoc}
 use Rattle.script_model.specs.Lines as lines
-use Rattle.script_model.specs.Lines.{pieces, first_line, first_feed, behind_line, event_of}
-use Rattle.script_model.specs.Bounds.{IsAsked}
-use Rattle.script_model.proofs.Asked.{asked-within}
-use Rattle.trie_model.specs.State.{State}
-use Rattle.output_model.specs.Ends.{Output, RunLimits, syntax_at}
-use Rattle.output_model.specs.Scripts.{after_line, lines_output, script_output}
-use Rattle.output_model.specs.Root.{root_done, root_script, root_output}
+use Rattle.script_model.specs.Lines.{pieces, first_line, first_feed, behind_line}
+use Rattle.output_model.specs.Ends.{Output, syntax_at}
+use Rattle.output_model.specs.Scripts.{Script, Step, goes_on, ends, behind, after_line, after_step, lines_output, script_output}
 use Rattle.output_model.proofs.FirstLine as lines_of
 use Rattle.output_model.proofs.FirstLine.{first_output}
-use Rattle.base_core.specs.PairMaps.{PairMap}
 use Rattle.script_io.specs.declared.event.Event.{Event}
 use Rattle.script_io.specs.LinesStates.{LinesState}
 use Rattle.script_io.specs.Meanings.{event}
-use Rattle.shard_cmd.specs.declared.events.Stop.{Stop}
 use Rattle.shard_cmd.specs.declared.events.Stop.TheVariants as stop
-use Rattle.shard_cmd.specs.declared.root.End.{End}
-use Rattle.shard_cmd.specs.declared.root.End.TheVariants as end
-use Rattle.shard_cmd.specs.Events.{end_output, stopped_at, NextIs, Asks, IsNext, is_full, SetsPair, Lays}
+use Rattle.shard_cmd.specs.Events.{NextIs, Asks, IsNext}
 
--- the pair had room, or it had none
-had_room : (b : Bool) → (if b then Some end.Full else None) ≡ None → b ≡ false
-had_room true e = absurd (cc e)
-had_room false e = refl
+-- The output of a script is that of what is left of it, from the state that the lines so far made, behind the replies to them.
+pub record IsUpTo {S : Type 0} (script : Script S) (left : Option (List ℕ)) (replies : List ℕ) (lines : LinesState) (after : Option (List ℕ)) (state : S) : Type 0 where
+  pub told : IfSome left (λ input. (rest : List ℕ) × (after ≡ Some rest) × (script_output script input ≡ behind replies (lines_output script lines.before (lines.lines + 1) state (pieces (lines.pending ++ rest)))))
 
-had_none : (b : Bool) (found : End) → (if b then Some end.Full else None) ≡ Some found → (b ≡ true) × (found ≡ end.Full)
-had_none true found e = (refl, cc)
-had_none false found e = absurd (cc e)
+behind-behind : (a b : List ℕ) (output : Output) → behind a (behind b output) ≡ behind (a ++ b) output
+behind-behind a b output = ap (λ (bytes : List ℕ). record { bytes = bytes; ending = output.ending }) (sym (append_assoc a b output.bytes))
 
--- ---- the events of a script
-
--- The output of a script is that of what is left of it, from the state that the lines so far made.
-pub record IsUpTo (left : Option (List ℕ)) (most : ℕ) (lines : LinesState) (after : Option (List ℕ)) (state : State) : Type 0 where
-  pub told : (limits : RunLimits) → limits.pairs ≡ most → IfSome left (λ input. (rest : List ℕ) × (after ≡ Some rest) × (root_output limits input ≡ lines_output (root_script limits) lines.before (lines.lines + 1) state (pieces (lines.pending ++ rest))))
-
-begun : (left : Option (List ℕ)) (limits : RunLimits) → IfSome left (λ input. (rest : List ℕ) × (left ≡ Some rest) × (root_output limits input ≡ lines_output (root_script limits) 0 (0 + 1) empty (pieces ([] ++ rest))))
+begun : {S : Type 0} (script : Script S) (left : Option (List ℕ)) → IfSome left (λ input. (rest : List ℕ) × (left ≡ Some rest) × (script_output script input ≡ behind [] (lines_output script 0 (0 + 1) script.begin (pieces ([] ++ rest)))))
 unfolding script_output
-begun None limits = tt
-begun (Some input) limits = (input, refl, refl)
+begun script None = tt
+begun script (Some input) = (input, refl, refl)
 
-pub IsUpTo-begin : (left : Option (List ℕ)) (most : ℕ) (lines : LinesState) (state : State) → lines ≡ record { pending = []; before = 0; lines = 0; number = 0 } → state ≡ empty → IsUpTo left most lines left state
-IsUpTo-begin left most lines state e f = rw (e, f) (record { told = λ limits same. begun left limits })
+pub IsUpTo-begin : {S : Type 0} (script : Script S) (left : Option (List ℕ)) (lines : LinesState) (state : S) → lines ≡ record { pending = []; before = 0; lines = 0; number = 0 } → state ≡ script.begin → IsUpTo script left [] lines left state
+IsUpTo-begin script left lines state e f = rw (e, f) (record { told = begun script left })
 
--- by the next event
-asked_output : (limits : RunLimits) (old new : LinesState) (state : State) (rest : List ℕ) (after : Option (List ℕ)) (asked : lines.Event) → Asks (old.pending ++ rest) old new after asked → new.lines ≡ old.lines + 1
-    → lines_output (root_script limits) old.before (old.lines + 1) state (pieces (old.pending ++ rest))
-    ≡ after_line (root_script limits) (old.lines + 1) (Some asked) state (λ s. lines_output (root_script limits) new.before (new.lines + 1) s (pieces (behind_line (old.pending ++ rest))))
-asked_output limits old new state rest after asked a n =
-    first_output (root_script limits) old.before (old.lines + 1) state (old.pending ++ rest) a.some
-    ∙ ap (λ o. after_line (root_script limits) (old.lines + 1) o state (λ s. lines_output (root_script limits) (old.before + length (first_line (old.pending ++ rest)) + first_feed (old.pending ++ rest)) (old.lines + 1 + 1) s (pieces (behind_line (old.pending ++ rest))))) a.asked_is
-    ∙ ap (λ b. after_line (root_script limits) (old.lines + 1) (Some asked) state (λ s. lines_output (root_script limits) b (old.lines + 1 + 1) s (pieces (behind_line (old.pending ++ rest))))) (sym a.before)
-    ∙ ap (λ k. after_line (root_script limits) (old.lines + 1) (Some asked) state (λ s. lines_output (root_script limits) new.before (k + 1) s (pieces (behind_line (old.pending ++ rest))))) (sym n)
+-- ---- by the next event
 
--- a line that asks for nothing, and one that sets a pair
-goes_on : (left after new_after : Option (List ℕ)) (limits : RunLimits) (old new : LinesState) (state next : State) (asked : lines.Event) → new.lines ≡ old.lines + 1
-    → ((others : State → Output) → after_line (root_script limits) (old.lines + 1) (Some asked) state others ≡ others next)
-    → IfSome left (λ input. (rest : List ℕ) × (after ≡ Some rest) × (root_output limits input ≡ lines_output (root_script limits) old.before (old.lines + 1) state (pieces (old.pending ++ rest))))
-    → IfSome after (λ rest. Asks (old.pending ++ rest) old new new_after asked)
-    → IfSome left (λ input. (rest : List ℕ) × (new_after ≡ Some rest) × (root_output limits input ≡ lines_output (root_script limits) new.before (new.lines + 1) next (pieces (new.pending ++ rest))))
-goes_on None after new_after limits old new state next asked n step told a = tt
-goes_on (Some input) after new_after limits old new state next asked n step told a =
-    let asks : Asks (old.pending ++ told.0) old new new_after asked = subst (λ (o : Option (List ℕ)). IfSome o (λ rest. Asks (old.pending ++ rest) old new new_after asked)) told.1 a in
-    (asks.behind.0, asks.behind.1, told.2 ∙ asked_output limits old new state told.0 new_after asked asks n ∙ step _ ∙ ap (λ (bytes : List ℕ). lines_output (root_script limits) new.before (new.lines + 1) next (pieces bytes)) (sym asks.behind.2))
+asked_output : {S : Type 0} (script : Script S) (old new : LinesState) (state : S) (rest : List ℕ) (after : Option (List ℕ)) (asked : lines.Event) → Asks (old.pending ++ rest) old new after asked → new.lines ≡ old.lines + 1
+    → lines_output script old.before (old.lines + 1) state (pieces (old.pending ++ rest))
+    ≡ after_line script (old.lines + 1) (Some asked) state (λ s. lines_output script new.before (new.lines + 1) s (pieces (behind_line (old.pending ++ rest))))
+asked_output script old new state rest after asked a n =
+    first_output script old.before (old.lines + 1) state (old.pending ++ rest) a.some
+    ∙ ap (λ o. after_line script (old.lines + 1) o state (λ s. lines_output script (old.before + length (first_line (old.pending ++ rest)) + first_feed (old.pending ++ rest)) (old.lines + 1 + 1) s (pieces (behind_line (old.pending ++ rest))))) a.asked_is
+    ∙ ap (λ b. after_line script (old.lines + 1) (Some asked) state (λ s. lines_output script b (old.lines + 1 + 1) s (pieces (behind_line (old.pending ++ rest))))) (sym a.before)
+    ∙ ap (λ k. after_line script (old.lines + 1) (Some asked) state (λ s. lines_output script new.before (k + 1) s (pieces (behind_line (old.pending ++ rest))))) (sym n)
 
 asks_of : (after new_after : Option (List ℕ)) (old new : LinesState) (found : Event) → IfSome after (λ left. NextIs (old.pending ++ left) old new new_after (Ok (Some found))) → IfSome after (λ left. Asks (old.pending ++ left) old new new_after (event found))
 asks_of None new_after old new found h = tt
 asks_of (Some left) new_after old new found h = h
 
-laid_step : (limits : RunLimits) (held next : PairMap) (number : ℕ) (asked : lines.Event) → limits.pairs ≡ held.most → Lays number held next asked None
-    → (others : State → Output) → after_line (root_script limits) number (Some asked) held.state others ≡ others next.state
-laid_step limits held next number lines.nothing same l others = ap (λ (h : PairMap). others h.state) (sym l.1)
-laid_step limits held next number (lines.set key value) same l others = rw (same, had_room (is_full held key) l.0) (ap (λ (h : PairMap). others h.state) (sym l.1))
-laid_step limits held next number (lines.block id prev height) same l others = absurd (cc l.0)
-laid_step limits held next number (lines.delete key) same l others = absurd (cc l.0)
-laid_step limits held next number lines.block_end same l others = absurd (cc l.0)
-laid_step limits held next number (lines.head id) same l others = absurd (cc l.0)
-laid_step limits held next number (lines.flat id key) same l others = absurd (cc l.0)
+asks_at : (after new_after : Option (List ℕ)) (old new : LinesState) (found : Event) (rest : List ℕ) → after ≡ Some rest → IfSome after (λ left. NextIs (old.pending ++ left) old new new_after (Ok (Some found))) → Asks (old.pending ++ rest) old new new_after (event found)
+asks_at after new_after old new found rest e h = subst (λ (o : Option (List ℕ)). IfSome o (λ rest. Asks (old.pending ++ rest) old new new_after (event found))) e (asks_of after new_after old new found h)
 
--- the event was done
-pub IsUpTo-laid : (left after new_after : Option (List ℕ)) (most number : ℕ) (old new : LinesState) (held next : PairMap) (found : Event) → held.most ≡ most → number ≡ old.lines + 1 → IsNext old new
-    → IfSome after (λ left. NextIs (old.pending ++ left) old new new_after (Ok (Some found))) → Lays number held next (event found) None → IsUpTo left most old after held.state → IsUpTo left most new new_after next.state
-IsUpTo-laid left after new_after most number old new held next found m n step h l u = record {
-  told = λ limits same. goes_on left after new_after limits old new held.state next.state (event found) step.lines (laid_step limits held next (old.lines + 1) (event found) (same ∙ sym m) (rw n at l)) (u.told limits same) (asks_of after new_after old new found h);
-}
+-- the script goes on behind a line
+told_next : {S : Type 0} (script : Script S) (left after new_after : Option (List ℕ)) (replies reply : List ℕ) (old new : LinesState) (state next : S) (found : Event) → new.lines ≡ old.lines + 1 → script.step (old.lines + 1) state (event found) ≡ goes_on reply next
+    → IfSome left (λ input. (rest : List ℕ) × (after ≡ Some rest) × (script_output script input ≡ behind replies (lines_output script old.before (old.lines + 1) state (pieces (old.pending ++ rest)))))
+    → IfSome after (λ left. NextIs (old.pending ++ left) old new new_after (Ok (Some found)))
+    → IfSome left (λ input. (rest : List ℕ) × (new_after ≡ Some rest) × (script_output script input ≡ behind (replies ++ reply) (lines_output script new.before (new.lines + 1) next (pieces (new.pending ++ rest)))))
+told_next script None after new_after replies reply old new state next found n step told h = tt
+told_next {S} script (Some input) after new_after replies reply old new state next found n step told h =
+    let asks = asks_at after new_after old new found told.0 told.1 h in
+    let others : S → Output = λ s. lines_output script new.before (new.lines + 1) s (pieces (behind_line (old.pending ++ told.0))) in (
+      asks.behind.0,
+      asks.behind.1,
+      told.2 ∙ ap (λ (o : Output). behind replies o) (asked_output script old new state told.0 new_after (event found) asks n ∙ ap (λ (s : Step S). after_step s others) step)
+          ∙ ap (λ (bytes : List ℕ). behind replies (behind reply (lines_output script new.before (new.lines + 1) next (pieces bytes)))) (sym asks.behind.2)
+          ∙ behind-behind replies reply _,
+    )
+
+pub IsUpTo-next : {S : Type 0} (script : Script S) (left after new_after : Option (List ℕ)) (replies reply : List ℕ) (old new : LinesState) (state next : S) (found : Event) → IsNext old new
+    → IfSome after (λ left. NextIs (old.pending ++ left) old new new_after (Ok (Some found))) → script.step (old.lines + 1) state (event found) ≡ goes_on reply next
+    → IsUpTo script left replies old after state → IsUpTo script left (replies ++ reply) new new_after next
+IsUpTo-next script left after new_after replies reply old new state next found n h step u = record { told = told_next script left after new_after replies reply old new state next found n.lines step u.told h }
 
 -- ---- the end of a script
 
-pub ends_whole : (left after new_after : Option (List ℕ)) (most : ℕ) (old new : LinesState) (state : State) (limits : RunLimits) → limits.pairs ≡ most → IsUpTo left most old after state
-    → IfSome after (λ left. NextIs (old.pending ++ left) old new new_after (Ok None)) → IfSome left (λ input. root_output limits input ≡ root_done state)
-ends_whole None after new_after most old new state limits same u h = tt
-ends_whole (Some input) after new_after most old new state limits same u h =
-    let told = u.told limits same in
+-- behind the last line
+pub ends_whole : {S : Type 0} (script : Script S) (left after new_after : Option (List ℕ)) (replies : List ℕ) (old new : LinesState) (state : S) → IsUpTo script left replies old after state
+    → IfSome after (λ left. NextIs (old.pending ++ left) old new new_after (Ok None)) → IfSome left (λ input. script_output script input ≡ behind replies (script.last (old.lines + 1) state))
+ends_whole script None after new_after replies old new state u h = tt
+ends_whole script (Some input) after new_after replies old new state u h =
+    let told = u.told in
     let none : old.pending ++ told.0 ≡ [] = (subst (λ (o : Option (List ℕ)). IfSome o (λ left. NextIs (old.pending ++ left) old new new_after (Ok None))) told.1 h).0 in
-    told.2 ∙ ap (λ (bytes : List ℕ). lines_output (root_script limits) old.before (old.lines + 1) state (pieces bytes)) none ∙ lines_of.end_output (root_script limits) old.before (old.lines + 1) state
+    told.2 ∙ ap (λ (bytes : List ℕ). behind replies (lines_output script old.before (old.lines + 1) state (pieces bytes))) none ∙ ap (λ (o : Output). behind replies o) (lines_of.end_output script old.before (old.lines + 1) state)
 
-pub nothing_left : (left after new_after : Option (List ℕ)) (most : ℕ) (old new : LinesState) (state : State) (limits : RunLimits) → limits.pairs ≡ most → IsUpTo left most old after state
+pub nothing_left : {S : Type 0} (script : Script S) (left after new_after : Option (List ℕ)) (replies : List ℕ) (old new : LinesState) (state : S) → IsUpTo script left replies old after state
     → IfSome after (λ left. NextIs (old.pending ++ left) old new new_after (Ok None)) → IfSome left (λ _. new_after ≡ Some [])
-nothing_left None after new_after most old new state limits same u h = tt
-nothing_left (Some input) after new_after most old new state limits same u h =
-    let told = u.told limits same in
-    (subst (λ (o : Option (List ℕ)). IfSome o (λ left. NextIs (old.pending ++ left) old new new_after (Ok None))) told.1 h).1
+nothing_left script None after new_after replies old new state u h = tt
+nothing_left script (Some input) after new_after replies old new state u h = (subst (λ (o : Option (List ℕ)). IfSome o (λ left. NextIs (old.pending ++ left) old new new_after (Ok None))) u.told.1 h).1
 
-ends_syntax : (left after new_after : Option (List ℕ)) (most number : ℕ) (old new : LinesState) (state : State) (limits : RunLimits) → limits.pairs ≡ most → number ≡ old.lines + 1 → IsUpTo left most old after state
-    → IfSome after (λ left. NextIs (old.pending ++ left) old new new_after (Err stop.Syntax)) → IfSome left (λ input. root_output limits input ≡ syntax_at number)
-ends_syntax None after new_after most number old new state limits same n u h = tt
-ends_syntax (Some input) after new_after most number old new state limits same n u h =
-    let told = u.told limits same in
+-- at a line that is none of a script
+pub ends_unread : {S : Type 0} (script : Script S) (left after new_after : Option (List ℕ)) (replies : List ℕ) (old new : LinesState) (state : S) → IsUpTo script left replies old after state
+    → IfSome after (λ left. NextIs (old.pending ++ left) old new new_after (Err stop.Syntax)) → IfSome left (λ input. script_output script input ≡ behind replies (syntax_at (old.lines + 1)))
+ends_unread script None after new_after replies old new state u h = tt
+ends_unread {S} script (Some input) after new_after replies old new state u h =
+    let told = u.told in
     let bad = subst (λ (o : Option (List ℕ)). IfSome o (λ left. NextIs (old.pending ++ left) old new new_after (Err stop.Syntax))) told.1 h in
-    told.2 ∙ first_output (root_script limits) old.before (old.lines + 1) state (old.pending ++ told.0) bad.0
-    ∙ ap (λ o. after_line (root_script limits) (old.lines + 1) o state (λ s. lines_output (root_script limits) (old.before + length (first_line (old.pending ++ told.0)) + first_feed (old.pending ++ told.0)) (old.lines + 1 + 1) s (pieces (behind_line (old.pending ++ told.0))))) bad.1
-    ∙ ap syntax_at (sym n)
+    let others : S → Output = λ s. lines_output script (old.before + length (first_line (old.pending ++ told.0)) + first_feed (old.pending ++ told.0)) (old.lines + 1 + 1) s (pieces (behind_line (old.pending ++ told.0))) in
+    told.2 ∙ ap (λ (o : Output). behind replies o) (first_output script old.before (old.lines + 1) state (old.pending ++ told.0) bad.0 ∙ ap (λ o. after_line script (old.lines + 1) o state others) bad.1)
 
--- at a line that is read
-line_ends : (found : End) (limits : RunLimits) (held next : PairMap) (number : ℕ) (asked : lines.Event) → limits.pairs ≡ held.most → Lays number held next asked (Some found)
-    → (others : State → Output) → after_line (root_script limits) number (Some asked) held.state others ≡ end_output found next.state
-line_ends found limits held next number lines.nothing same l others = absurd (cc l.0)
-line_ends found limits held next number (lines.set key value) same l others = let full = had_none (is_full held key) found l.0 in rw (same, full.0, full.1) refl
-line_ends found limits held next number (lines.block id prev height) same l others = let is : end.Syntax number ≡ found = cc l.0 in rw (← is) refl
-line_ends found limits held next number (lines.delete key) same l others = let is : end.Syntax number ≡ found = cc l.0 in rw (← is) refl
-line_ends found limits held next number lines.block_end same l others = let is : end.Syntax number ≡ found = cc l.0 in rw (← is) refl
-line_ends found limits held next number (lines.head id) same l others = let is : end.Syntax number ≡ found = cc l.0 in rw (← is) refl
-line_ends found limits held next number (lines.flat id key) same l others = let is : end.Syntax number ≡ found = cc l.0 in rw (← is) refl
+-- at what a line asks for
+pub ends_asked : {S : Type 0} (script : Script S) (left after new_after : Option (List ℕ)) (replies : List ℕ) (old new : LinesState) (state : S) (found : Event) (output : Output) → IsNext old new
+    → IfSome after (λ left. NextIs (old.pending ++ left) old new new_after (Ok (Some found))) → script.step (old.lines + 1) state (event found) ≡ ends output
+    → IsUpTo script left replies old after state → IfSome left (λ input. script_output script input ≡ behind replies output)
+ends_asked script None after new_after replies old new state found output n h step u = tt
+ends_asked {S} script (Some input) after new_after replies old new state found output n h step u =
+    let told = u.told in
+    let asks = asks_at after new_after old new found told.0 told.1 h in
+    let others : S → Output = λ s. lines_output script new.before (new.lines + 1) s (pieces (behind_line (old.pending ++ told.0))) in
+    told.2 ∙ ap (λ (o : Output). behind replies o) (asked_output script old new state told.0 new_after (event found) asks n.lines ∙ ap (λ (s : Step S). after_step s others) step)
 
--- the script stops at a line
-pub ends_stopped : (left after new_after : Option (List ℕ)) (most number : ℕ) (old new : LinesState) (state : State) (limits : RunLimits) (why : Stop) → limits.pairs ≡ most → number ≡ old.lines + 1 → IsUpTo left most old after state
-    → IfSome after (λ left. NextIs (old.pending ++ left) old new new_after (Err why)) → IfSome left (λ input. IfOk (stopped_at why number) (λ end. root_output limits input ≡ end_output end state))
-ends_stopped None after new_after most number old new state limits why same n u h = tt
-ends_stopped (Some input) after new_after most number old new state limits stop.Syntax same n u h = ends_syntax (Some input) after new_after most number old new state limits same n u h
-ends_stopped (Some input) after new_after most number old new state limits stop.ReadFault same n u h = tt
-ends_stopped (Some input) after new_after most number old new state limits stop.NoMemory same n u h = tt
-
--- the script ends at what a line asks for
-pub ends_asked : (left after new_after : Option (List ℕ)) (most number : ℕ) (old new : LinesState) (held next : PairMap) (asked : Event) (found : End) (limits : RunLimits) → limits.pairs ≡ most → held.most ≡ most → number ≡ old.lines + 1 → IsNext old new
-    → IfSome after (λ left. NextIs (old.pending ++ left) old new new_after (Ok (Some asked))) → Lays number held next (event asked) (Some found) → IsUpTo left most old after held.state
-    → IfSome left (λ input. root_output limits input ≡ end_output found next.state)
-ends_asked None after new_after most number old new held next asked found limits same m n step h l u = tt
-ends_asked (Some input) after new_after most number old new held next asked found limits same m n step h l u =
-    let told = u.told limits same in
-    let asks : Asks (old.pending ++ told.0) old new new_after (event asked) = subst (λ (o : Option (List ℕ)). IfSome o (λ rest. Asks (old.pending ++ rest) old new new_after (event asked))) told.1 (asks_of after new_after old new asked h) in
-    told.2 ∙ asked_output limits old new held.state told.0 new_after (event asked) asks step.lines
-    ∙ line_ends found limits held next (old.lines + 1) (event asked) (same ∙ sym m) (rw n at l) (λ s. lines_output (root_script limits) new.before (new.lines + 1) s (pieces (behind_line (old.pending ++ told.0))))
-
--- what a line sets is a pair
-SetsPair-asked : (asked : lines.Event) → IsAsked asked → SetsPair asked
-unfolding IsAsked
-SetsPair-asked lines.nothing h = tt
-SetsPair-asked (lines.block id prev height) h = tt
-SetsPair-asked (lines.set key value) h = h
-SetsPair-asked (lines.delete key) h = tt
-SetsPair-asked lines.block_end h = tt
-SetsPair-asked (lines.head id) h = tt
-SetsPair-asked (lines.flat id key) h = tt
-
-pub SetsPair-event_of : (line : List ℕ) (asked : lines.Event) → event_of line ≡ Some asked → SetsPair asked
-SetsPair-event_of line asked e = SetsPair-asked asked (asked-within line asked e)
+-- somewhere
+pub ends_early : {S : Type 0} (script : Script S) (left after : Option (List ℕ)) (replies : List ℕ) (lines : LinesState) (state : S) → IsUpTo script left replies lines after state → IfSome left (λ input. (last : Output) × (script_output script input ≡ behind replies last))
+ends_early script None after replies lines state u = tt
+ends_early script (Some input) after replies lines state u = (_, u.told.2)

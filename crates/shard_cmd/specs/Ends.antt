@@ -70,6 +70,16 @@ abbrev pub reading_ended : {X : Type 0} → Result X Status → Ended
 reading_ended (Ok answer) = ended.done
 reading_ended (Err status) = source_ended status
 
+-- What the source counts then. Where the sink failed the source may have failed just before, as replies are written that were due.
+abbrev pub SourceCounts : Status → (before now : ℕ) → Type 0
+SourceCounts Done before now = now ≡ before
+SourceCounts NoMemory before now = now ≡ before
+SourceCounts Usage before now = now ≡ before
+SourceCounts Syntax before now = now ≡ before
+SourceCounts Refused before now = now ≡ before
+SourceCounts ReadFault before now = now ≡ risen before 1
+SourceCounts WriteFault before now = (now ≡ before) ⊎ (now ≡ risen before 1)
+
 -- The last bytes of a run were written, and it has this status; or the sink failed.
 abbrev pub FinishesAs : (status ended : Status) (before now : ℕ) → Type 0
 FinishesAs status ended before now = ((ended ≡ status) × (now ≡ before)) ⊎ ((ended ≡ WriteFault) × (now ≡ risen before 1))

@@ -8,7 +8,7 @@ use Rattle.script_model.specs.Lines as lines
 use Rattle.script_model.specs.Lines.{event_if, first_fault, first_line, first_feed, behind_line, longest_input}
 use Rattle.output_model.specs.Ends.{Output, syntax_at, full_pairs}
 use Rattle.output_model.specs.Root.{root_done}
-use Rattle.trie_model.specs.State.{State, IsPair}
+use Rattle.trie_model.specs.State.{State}
 use Rattle.script_io.specs.declared.event.Event.{Event}
 use Rattle.script_io.specs.LinesStates.{LinesState, IsOpen}
 use Rattle.script_io.specs.Meanings.{event}
@@ -81,16 +81,6 @@ stopped_at stop.NoMemory number = Err status.NoMemory
 -- whether there is no room for a pair of this key
 abbrev pub is_full : PairMap → List ℕ → Bool
 is_full held key = nat_le held.most (len held.state) && not (contains_key held.state key)
-
--- the pair that an event sets is within the limits of keys and values
-abbrev pub SetsPair : lines.Event → Type 0
-SetsPair lines.nothing = Unit {0}
-SetsPair (lines.block id prev height) = Unit {0}
-SetsPair (lines.set key value) = IsPair (key, value)
-SetsPair (lines.delete key) = Unit {0}
-SetsPair lines.block_end = Unit {0}
-SetsPair (lines.head id) = Unit {0}
-SetsPair (lines.flat id key) = Unit {0}
 
 -- how a script ends at what the line with this number asks for, if it does: a pair has no room, or the line is one of blocks
 abbrev pub ends_at : (number : ℕ) → PairMap → lines.Event → Option End

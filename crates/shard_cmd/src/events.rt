@@ -1,6 +1,7 @@
 ghost use Rattle.std.specs.Prelude.{◌≡◌, ◌+◌, ◌++◌, IfOk, IfSome};
 ghost use Rattle.base_core.specs.Faults.{faults_after};
-ghost use Rattle.shard_cmd.specs.Events.{NextIs, IsNext, SetsPair, line_stop, event_stop, event_ended};
+ghost use Rattle.shard_cmd.specs.Events.{NextIs, IsNext, line_stop, event_stop, event_ended};
+ghost use Rattle.script_model.specs.Bounds.{IsAsked};
 ghost use Rattle.script_io.specs.Meanings.{event};
 
 use script_io::{Event, EventError, LineError, Lines, Source, read_event};
@@ -47,7 +48,7 @@ pub fn next_event<S: Source>(
     source: &mut S,
 ) -> Result<Option<Event>, Stop>
     ensures next { IfSome (S.left source.old) (λ left. NextIs (lines.old.pending ++ left) lines.old lines.new (S.left source.new) result) }
-    ensures within { IfOk result (λ found. IfSome found (λ asked. SetsPair (event asked))) }
+    ensures within { IfOk result (λ found. IfSome found (λ asked. IsAsked (event asked))) }
     ensures number { lines.new.number ≡ lines.old.lines + 1 }
     ensures more { IfOk result (λ found. IfSome found (λ _. IsNext lines.old lines.new)) }
     ensures counted { S.faults source.new ≡ faults_after (event_ended result) (S.faults source.old) }

@@ -62,7 +62,7 @@ pub fn syntax_reply(alloc: Global, number: u64) -> Result<Reply, AllocError>
     }
 }
 
-fn put_syntax(line: &mut Buffer, number: u64) -> Result<(), Fault>
+pub fn put_syntax(line: &mut Buffer, number: u64) -> Result<(), Fault>
     ensures { OnOk result (line.new.bytes ≡ line.old.bytes ++ codes "syntax " ++ decimal number ++ line_feed ∷ []) }
 {
     put(line, b"syntax ")?;

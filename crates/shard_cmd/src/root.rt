@@ -5,7 +5,8 @@ ghost use Rattle.base_core.specs.Faults.{faults_after};
 ghost use Rattle.output_model.specs.Ends.{RunLimits};
 ghost use Rattle.output_model.specs.Root.{root_output};
 ghost use Rattle.shard_cmd.specs.Ends.{run_limits, IsAnswer, IsFailure, reading_ended};
-ghost use Rattle.shard_cmd.specs.Events.{end_output, stopped_at, SetsPair, ends_at, Lays};
+ghost use Rattle.shard_cmd.specs.Events.{end_output, stopped_at, ends_at, Lays};
+ghost use Rattle.script_model.specs.Bounds.{IsAsked};
 ghost use Rattle.script_io.specs.Meanings.{event};
 ghost use Rattle.shard_cmd.specs.Replies.{IsReply};
 
@@ -105,7 +106,7 @@ fn stopped(stop: Stop, number: u64) -> Result<End, Status>
 /// Does what the line with this number asks for, and answers how the script ends there, if it does: at
 /// a pair without room, or at a line of blocks.
 fn lay(pairs: &mut Pairs, asked: Event, number: u64) -> Result<Option<End>, AllocError>
-    requires { SetsPair (event asked) }
+    requires { IsAsked (event asked) }
     ensures lays { IfOk result (Lays number pairs.old pairs.new (event asked)) }
     ensures refused { IfSome (ends_at number pairs.old (event asked)) (λ end. result ≡ Ok (Some end)) }
     ensures err { OnErr result (pairs.new ≡ pairs.old) }
@@ -117,7 +118,8 @@ fn lay(pairs: &mut Pairs, asked: Event, number: u64) -> Result<Option<End>, Allo
             Ok(()) => Ok(None),
             Err(PutError::Full) => Ok(Some(End::Full)),
             Err(PutError::NoMemory) => Err(AllocError),
-            Err(PutError::KeyLong { .. } | PutError::ValueLong { .. }) => unreachable!(),
+            Err(PutError::KeyLong { .. }) => unreachable!(),
+            Err(PutError::ValueLong { .. }) => unreachable!(),
         },
         _ => Ok(Some(End::Syntax(number))),
     }

@@ -2,15 +2,17 @@ ghost use Rattle.std.specs.Prelude.{◌≡◌, ◌≢◌, ◌≤◌, [], Some, N
 ghost use Rattle.base_core.specs.Bounds.{AreLimits};
 ghost use Rattle.base_core.specs.Faults.{Rose, faults_after};
 ghost use Rattle.script_model.specs.Words.{command_of};
-ghost use Rattle.output_model.specs.Ends.{Output, bad_command};
+ghost use Rattle.output_model.specs.Ends.{bad_command};
 ghost use Rattle.output_model.specs.Root.{root_output};
 ghost use Rattle.output_model.specs.Output.{output_of};
-ghost use Rattle.shard_cmd.specs.Ends.{run_limits, ending_of, EndsAs, HasEnding, FinishesAs, IsUsageUnlessFailed, source_ended, sink_ended};
+ghost use Rattle.shard_cmd.specs.Ends.{run_limits, ending_of, EndsAs, HasEnding, IsUsageUnlessFailed, SourceCounts, source_ended, sink_ended};
 
+use crate::apply::run_apply;
 use crate::root::answer_root;
 use crate::status::Status;
+use crate::writing::finish;
 use base_core::{Limits, Text};
-use script_io::{Command, CommandError, Sink, Source, put, read_command};
+use script_io::{Command, CommandError, Sink, Source, read_command};
 use std::alloc::Global;
 
 /// Carries out the command that the words are, which don't contain the program's name, on the input
@@ -40,7 +42,7 @@ pub fn run<S: Source, K: Sink>(
     ensures unread { command_of words.now ≡ None → source.new ≡ source.old }
 
     // A fault of the outside has a cause, and is told where it came.
-    ensures source_faults { S.faults source.new ≡ faults_after (source_ended result) (S.faults source.old) }
+    ensures source_faults { SourceCounts result (S.faults source.old) (S.faults source.new) }
     ensures sink_faults { K.faults sink.new ≡ faults_after (sink_ended result) (K.faults sink.old) }
     ensures source_counts { S.faults source.old ≤ S.faults source.new }
     ensures sink_counts { K.faults sink.old ≤ K.faults sink.new }
@@ -49,6 +51,7 @@ pub fn run<S: Source, K: Sink>(
 {
     match read_command(alloc, words) {
         Ok(Command::Root) => run_root(alloc, source, sink, limits),
+        Ok(Command::Apply) => run_apply(alloc, source, sink, limits),
         Err(CommandError::Bad) => finish(sink, b"bad command\n", Status::Usage),
         Err(CommandError::NoMemory) => Status::NoMemory,
     }
@@ -73,17 +76,5 @@ fn run_root<S: Source, K: Sink>(
     match answer_root(alloc, source, limits) {
         Ok(reply) => finish(sink, reply.bytes.as_slice(), reply.status),
         Err(status) => status,
-    }
-}
-
-/// Writes the last bytes of a run, and answers the status once they are written.
-fn finish<K: Sink>(sink: &mut K, bytes: &[u8], status: Status) -> Status
-    ensures output { (output : Output) → bytes.now ≡ output.bytes → ending_of status ≡ Some output.ending →
-        IfSome (K.written sink.old) (λ before. EndsAs output (ending_of result) before (K.written sink.new)) }
-    ensures status { FinishesAs status result (K.faults sink.old) (K.faults sink.new) }
-{
-    match put(sink, bytes) {
-        Ok(()) => status,
-        Err(_) => Status::WriteFault,
     }
 }
