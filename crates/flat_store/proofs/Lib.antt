@@ -10,3 +10,13 @@ pub mod Filling
 pub mod Puts
 -- changes gathered from several blocks, the newest first
 pub mod Noting
+-- the way from a live block to the head
+pub mod Ways
+-- a read of one key
+pub mod Lookups
+-- what is kept of live blocks with their states
+pub mod Follows
+-- what is kept after a move of the head
+pub mod Moved
+-- what holds of the tables
+pub mod Kept

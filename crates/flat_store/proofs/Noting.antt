@@ -54,7 +54,7 @@ noted-new m n key value new put q = ap (λ (c : Changes). get c q) put ∙ get-i
 abbrev Row : Type 0
 Row = Bor (List ℕ) × Option (Bor (List ℕ))
 
-abbrev shown : List Row → List Change
+abbrev pub shown : List Row → List Change
 shown rows = map (λ (row : Row). (row.0.now, option_copied row.1)) rows
 
 abbrev pub IsNoted : (now old : Changes) → List Row → ℕ → Type 0

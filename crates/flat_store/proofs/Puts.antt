@@ -142,6 +142,6 @@ module _ (head : ByKey (List ℕ)) (newest : ByKey Value) where
 abbrev pub as_error : {X E : Type 0} → E → Result X E
 as_error error = Err error
 
-pub passed_on : {X E : Type 0} (result : Result X E) (error other : E) → IsErrAnd result (λ given. given ≡ error) → result ≡ Err other → as_error {X = X} error ≡ Err other
+pub passed_on : {X Y E : Type 0} (result : Result X E) (error other : E) → IsErrAnd result (λ given. given ≡ error) → result ≡ Err other → as_error {X = Y} error ≡ Err other
 passed_on (Ok x) error other is same = absurd is
-passed_on (Err given) error other is same = ap Err (sym is) ∙ same
+passed_on (Err given) error other is same = let there : given ≡ other = cc in ap Err (sym is ∙ there)

@@ -5,7 +5,7 @@ use Rattle.std.specs.Option.{option_map}
 use Rattle.std.specs.Map.{lookup, KeepsOthers, keys_of}
 use Rattle.std.specs.List.{AllByRecursion, IsDistinct}
 use Rattle.std.specs.Cmp.Lexicographic.{pointwise, nat_list_cmp_total}
-use Rattle.std.specs.FinMap.{FinMap, get, from_entries, insert, remove, len, entries, len-entries, get-insert}
+use Rattle.std.specs.FinMap.{FinMap, empty, get, from_entries, insert, remove, len, entries, len-entries, get-insert}
 use Rattle.std.specs.declared.alloc.Global.{Global}
 use Rattle.trie_model.specs.State.{State, IsPair}
 use Rattle.batch_model.specs.Changes.{Change, Changes, IsChange, after_change}
@@ -36,8 +36,8 @@ module _ {X : Type 0} where
   pub get-map : (es : ByKey X) (q : List ℕ) → get (map_of es) q ≡ held es q
   get-map es q = get-seen items_of (λ v. v) es q ∙ option_map-itself (held es q)
 
-  pub map-none : (es : ByKey X) → es ≡ [] → map_of es ≡ map_of []
-  map-none es e = ap map_of e
+  pub map-empty : (es : ByKey X) → es ≡ [] → map_of es ≡ empty
+  map-empty = seen-none items_of (λ v. v)
 
   pub map-put : (es fs : ByKey X) (d key : List ℕ) (v : X) → d ≡ key → held fs d ≡ Some v → KeepsOthers same_items (λ k. pointwise nat_eq d k.items) es fs → map_of fs ≡ insert (map_of es) key v
   map-put es fs d key v same at others =
@@ -64,6 +64,9 @@ batch_at batches id = lookup (λ (k : Digest). pointwise nat_eq id k.0) batches
 
 pub get-deltas : (es : Batches) (q : List ℕ) → get (deltas_of es) q ≡ option_map changes_in (batch_at es q)
 get-deltas = get-seen id_of changes_in
+
+pub deltas-none : (es : Batches) → es ≡ [] → deltas_of es ≡ empty
+deltas-none = seen-none id_of changes_in
 
 pub deltas-put : (es fs : Batches) (d : List ℕ) (m : ChangeMap) → ((q : List ℕ) → batch_at fs q ≡ cond (pointwise nat_eq d q) (Some m) (batch_at es q)) → deltas_of fs ≡ insert (deltas_of es) d m.changes
 deltas-put = seen-put id_of changes_in

@@ -7,10 +7,10 @@ ghost use Rattle.std.specs.Str.{bytes_eq};
 ghost use Rattle.std.specs.FinMap.{empty, entries, find, get, insert};
 ghost use Rattle.trie_model.specs.State.{IsPair, State};
 ghost use Rattle.batch_model.specs.Changes.{IsChange, after};
-ghost use Rattle.fork_model.specs.Trees.{is_live, passed};
+ghost use Rattle.fork_model.specs.Trees.{IsTree, is_live, passed};
 ghost use Rattle.base_core.specs.Bounds.{most_pairs};
 ghost use Rattle.base_core.specs.PairMaps.{laid};
-ghost use Rattle.flat_store.specs.Flats.{HasSameBlocks, laid_over};
+ghost use Rattle.flat_store.specs.Flats.{delta_of, laid_over};
 ghost use Rattle.flat_store.specs.Kept.{changes_of, deltas_of, head_of, held, unchanged};
 
 use crate::errors::PairsOverError;
@@ -28,7 +28,7 @@ pub(crate) fn note_way(
     deltas: &HashMap<Digest, Changes>,
     id: &Digest,
 ) -> Result<(), AllocError>
-    requires blocks { HasSameBlocks forks.now.tree (deltas_of deltas.now.entries) }
+    requires tree { IsTree forks.now.tree }
     requires live { is_live forks.now.tree id.now.0 ≡ true }
     requires changes { AllByRecursion IsChange (entries (changes_of newest.old.entries)) }
     ensures ok { OnOk result ((head : State) → after head (changes_of newest.new.entries) ≡ after (laid_over (deltas_of deltas.now.entries) (passed forks.now.tree id.now.0) head) (changes_of newest.old.entries)) }
@@ -36,12 +36,27 @@ pub(crate) fn note_way(
 {
     let mut at = *id;
     while let Some(prev) = forks.prev_of(&at) {
-        if let Some(changes) = deltas.get(&at) {
-            note(alloc, newest, changes)?;
-        }
+        note_block(alloc, newest, deltas, &at)?;
         at = prev;
     }
     Ok(())
+}
+
+/// Notes the delta of a block, if the block has one.
+fn note_block(
+    alloc: Global,
+    newest: &mut HashMap<Vec<u8>, Option<Text>>,
+    deltas: &HashMap<Digest, Changes>,
+    id: &Digest,
+) -> Result<(), AllocError>
+    requires changes { AllByRecursion IsChange (entries (changes_of newest.old.entries)) }
+    ensures ok { OnOk result ((state : State) → after state (changes_of newest.new.entries) ≡ after (after state (delta_of (deltas_of deltas.now.entries) id.now.0)) (changes_of newest.old.entries)) }
+    ensures changes { OnOk result (AllByRecursion IsChange (entries (changes_of newest.new.entries))) }
+{
+    match deltas.get(id) {
+        Some(changes) => note(alloc, newest, changes),
+        None => Ok(()),
+    }
 }
 
 /// Notes changes that are older than those noted.
