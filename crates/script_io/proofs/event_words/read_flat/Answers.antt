@@ -2,7 +2,6 @@ use Rattle.std.proofs.Common.{◌∙◌, Err, ap}
 use Rattle.std.specs.Option.{option_map}
 use Rattle.std.proofs.lemmas.Result.{err_from_is_err_and}
 use Rattle.script_model.specs.Lines.{flat}
-use Rattle.script_model.specs.Spellings.{key_of}
 use Rattle.script_io.proofs.Events.{mapped_refused}
 use Rattle.script_io.proofs.event_words.read_flat.Goals as goal
 

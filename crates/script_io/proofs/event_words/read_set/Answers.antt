@@ -1,6 +1,6 @@
 use Rattle.std.proofs.Common.{◌∙◌, Err, ap}
 use Rattle.std.proofs.lemmas.Result.{err_from_is_err_and}
-use Rattle.script_model.specs.Spellings.{key_of, value_of}
+use Rattle.script_model.specs.Spellings.{key_of}
 use Rattle.script_io.proofs.Events.{IsKept, pair_read, pair_unkept, pair_bad_key, pair_refused}
 use Rattle.script_io.proofs.event_words.read_set.Goals as goal
 use Rattle.script_io.proofs.event_words.read_set.Goals.{in-Ok, in-Err-NoMemory}
