@@ -36,11 +36,13 @@ size [] = 0
 size (e ∷ es) = length (entries e.1) + size es
 
 size-sum : (es : List Entry) → sum_by (λ (e : Entry). length (entries e.1)) es ≡ size es
+unfolding size
 size-sum [] = refl
 size-sum (e ∷ es) = sum_by-cons (λ (e : Entry). length (entries e.1)) e es ∙ ap (λ n. length (entries e.1) + n) (size-sum es)
 
 size-put : (k : List ℕ) (v : Changes) (es : List Entry) → find order k es ≡ None → size (put order k v es) ≡ length (entries v) + size es
-size-put k v [] none = refl
+unfolding size
+size-put k v [] none = omega arith
 size-put k v (e ∷ es) none =
     elim (order k e.0) as (λ r. order k e.0 ≡ r → size (by_order r ((k, v) ∷ e ∷ es) ((e.0, v) ∷ es) (e ∷ put order k v es)) ≡ length (entries v) + (length (entries e.1) + size es)) [
       | Less ↦ λ _. refl
@@ -52,7 +54,7 @@ size-put k v (e ∷ es) none =
     not_none e = cc
 
 size-seen : {K V : Type 0} (key : K → List ℕ) (f : V → Changes) (es : List (K × V)) → IsDistinct (λ (a b : K). pointwise nat_eq (key a) (key b)) (keys_of es) → size (entries (seen key f es)) ≡ size (map (λ (e : K × V). (key e.0, f e.1)) es)
-unfolding IsDistinct
+unfolding IsDistinct size
 size-seen key f [] h = ap size (nothing _ (sym (len-entries (empty {K = List ℕ} {X = Changes} {R = order})) ∙ len-empty order Changes))
   where
     nothing : (es : List Entry) → length es ≡ 0 → es ≡ []
@@ -71,6 +73,7 @@ listed [] = 0
 listed (m ∷ ms) = length (entries m.changes) + listed ms
 
 listed-size : (es : Batches) → size (map (λ (e : Digest × ChangeMap). (e.0.0, e.1.changes)) es) ≡ listed (map (λ (e : Digest × ChangeMap). e.1) es)
+unfolding listed size
 listed-size [] = refl
 listed-size (e ∷ es) = ap (λ n. length (entries e.1.changes) + n) (listed-size es)
 
@@ -105,13 +108,14 @@ module _ (head : List ℕ) where
       by_tests false false u es et eu rest = ap (λ x. cond x (Some b.changes) (found (λ (k : List ℕ). k) (behind blocks) q)) et ∙ rest ∙ ap (λ x. cond x None (option_map (λ (b : Block). b.changes) (block_at blocks q))) eu
 
   behind-size : (blocks : List Block) → sum_by (λ (b : Block). length (entries b.changes)) (filter (λ (b : Block). not (bytes_eq head b.header.id)) blocks) ≡ size (behind blocks)
+  unfolding size
   behind-size [] = refl
   behind-size (b ∷ blocks) = by_test (not (bytes_eq head b.header.id)) (behind-size blocks)
     where
       by_test : (t : Bool) → sum_by (λ (b : Block). length (entries b.changes)) (filter (λ (b : Block). not (bytes_eq head b.header.id)) blocks) ≡ size (behind blocks)
           → sum_by (λ (b : Block). length (entries b.changes)) (cond t (b ∷ filter (λ (b : Block). not (bytes_eq head b.header.id)) blocks) (filter (λ (b : Block). not (bytes_eq head b.header.id)) blocks))
           ≡ size (cond t ((b.header.id, b.changes) ∷ behind blocks) (behind blocks))
-      by_test true rest = sum_by-cons (λ (b : Block). length (entries b.changes)) b _ ∙ ap (λ n. length (entries b.changes) + n) rest
+      by_test true rest = sum_by-cons (λ (b : Block). length (entries b.changes)) b (filter (λ (b : Block). not (bytes_eq head b.header.id)) blocks) ∙ ap (λ n. length (entries b.changes) + n) rest
       by_test false rest = rest
 
 ids-behind : (blocks : List Block) → keys_of (map (λ (b : Block). (b.header.id, b.changes)) blocks) ≡ ids_of (map (λ (b : Block). b.header) blocks)
@@ -121,7 +125,10 @@ ids-behind (b ∷ blocks) = ap (λ ids. b.header.id ∷ ids) (ids-behind blocks)
 -- all blocks but the head stand behind it
 all-behind : (head : List ℕ) (blocks : List Block) → AllByRecursion (λ (y : List ℕ). bytes_eq head y ≡ false) (ids_of (map (λ (b : Block). b.header) blocks)) → length (behind head blocks) ≡ length blocks
 all-behind head [] all = refl
-all-behind head (b ∷ blocks) all = ap (λ t. length (cond (not t) ((b.header.id, b.changes) ∷ behind head blocks) (behind head blocks))) all.0 ∙ ap (λ n. n + 1) (all-behind head blocks all.1) ∙ omega arith
+all-behind head (b ∷ blocks) all =
+    let here : length (behind head (b ∷ blocks)) ≡ length ((b.header.id, b.changes) ∷ behind head blocks) = ap (λ t. length (cond (not t) ((b.header.id, b.changes) ∷ behind head blocks) (behind head blocks))) all.0 in
+    let rest : length (behind head blocks) ≡ length blocks = all-behind head blocks all.1 in
+    omega (arith, here, rest)
 
 module _ (blocks : ForkState) (flat : FlatState) (well : IsForkState blocks) (is : IsFlatOf blocks flat) where
   abbrev kept : List Entry
@@ -161,4 +168,16 @@ module _ (blocks : ForkState) (flat : FlatState) (well : IsForkState blocks) (is
           let head : b.header.id ≡ blocks.head = cc in
           let others : AllByRecursion (λ (y : List ℕ). bytes_eq blocks.head y ≡ false) (ids_of (map (λ (b : Block). b.header) bs)) = subst (λ h. AllByRecursion (λ (y : List ℕ). bytes_eq h y ≡ false) (ids_of (map (λ (b : Block). b.header) bs))) head apart.0 in
           let here : bytes_eq blocks.head b.header.id ≡ true = ap (bytes_eq blocks.head) head ∙ same-itself blocks.head in
-          ap (λ t. length (cond (not t) ((b.header.id, b.changes) ∷ behind blocks.head bs) (behind blocks.head bs)) + 1) here ∙ ap (λ n. n + 1) (all-behind blocks.head bs others) ∙ omega arith
+          let none : length (behind blocks.head (b ∷ bs)) ≡ length (behind blocks.head bs) = ap (λ t. length (cond (not t) ((b.header.id, b.changes) ∷ behind blocks.head bs) (behind blocks.head bs))) here in
+          let rest : length (behind blocks.head bs) ≡ length bs = all-behind blocks.head bs others in
+          omega (arith, none, rest)
+
+-- ---- batch by batch
+
+pub listed-more : (left rest : List ChangeMap) (m : ChangeMap) → left ≡ m ∷ rest → listed left ≡ length (entries m.changes) + listed rest
+unfolding listed
+listed-more left rest m steps = ap listed steps
+
+pub listed-end : (left : List ChangeMap) → left ≡ [] → listed left ≡ 0
+unfolding listed
+listed-end left none = ap listed none

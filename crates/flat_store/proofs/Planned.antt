@@ -86,7 +86,7 @@ module _ (tree : BlockTree) (id : List ℕ) (is : IsTree tree) (live : is_live t
   passed-few es same =
       subst (λ n. length (passed tree id) ≤ n) (length-map es (λ (e : Digest × ChangeMap). (e.0.0, e.1)))
       (length-le_from_keys nat_list_eq_equiv (passed tree id) (map (λ (e : Digest × ChangeMap). (e.0.0, e.1)) es) passed-apart (λ q among.
-          ap is_some (found-by es q) ∙ some (batch_at es q) ∙ ap is_some (sym (get-deltas es q)) ∙ same q ∙ passed-behind q among))
+      ap is_some (found-by es q) ∙ some (batch_at es q) ∙ ap is_some (sym (get-deltas es q)) ∙ same q ∙ passed-behind q among))
     where
       some : (o : Option ChangeMap) → is_some o ≡ is_some (option_map (λ (m : ChangeMap). m.changes) o)
       some None = refl
