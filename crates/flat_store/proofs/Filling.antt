@@ -1,5 +1,5 @@
 -- A map that is filled with pairs, entry by entry of a table.
-use Rattle.std.proofs.Common.{◌≡◌, ◌≢◌, ℕ, ◌+◌, ◌≤◌, ◌<◌, Bool, true, false, cond, T, List, [], ◌∷◌, length, Option, None, Some, is_some, Vec, refl, sym, ap, subst, ◌∙◌, ⊎_elim, arith}
+use Rattle.std.proofs.Common.{◌≡◌, ◌≢◌, ℕ, ◌+◌, ◌≤◌, ◌<◌, Bool, true, false, cond, T, List, [], ◌∷◌, length, Option, None, Some, is_some, Vec, refl, sym, ap, subst, ◌∙◌, ⊎_elim, arith, suc}
 use Rattle.std.specs.Prelude.{nat_eq}
 use Rattle.std.specs.Cmp.Lexicographic.{nat_list_cmp_total, pointwise, texts_ties}
 use Rattle.std.proofs.lemmas.Map.Lookups.{exact_bytes}
@@ -19,20 +19,23 @@ found-not o v e f = absurd cc
 abbrev pub IsWithin : State → State → Type 0
 IsWithin part whole = (q v : List ℕ) → get part q ≡ Some v → get whole q ≡ Some v
 
+one_more : (n m k : ℕ) → n ≤ m → k ≡ m + 1 → suc n ≤ k
+one_more n m k few count = omega (arith, few, count)
+
 fewer-found : (es : List (List ℕ × List ℕ)) (whole : State) → T (is_sorted order es) → ((q v : List ℕ) → find order q es ≡ Some v → get whole q ≡ Some v) → length es ≤ len whole
 fewer-found [] whole h within = omega arith
 fewer-found (e ∷ es) whole h within =
     let here : find order e.0 (e ∷ es) ≡ Some e.1 = ap (λ b. cond b (Some e.1) (find order e.0 es)) (is_same-itself e.0) in
     let rest : State = remove whole e.0 in
     let again : insert rest e.0 e.1 ≡ whole = same_map nat_list_cmp_total exact_bytes _ _ (λ q.
-        ⊎_elim (λ (same : q ≡ e.0). ap (get (insert rest e.0 e.1)) same ∙ get-inserted rest e.0 e.1 ∙ sym (within e.0 e.1 here) ∙ ap (get whole) (sym same))
-        (λ other. get-inserted_elsewhere rest e.0 e.1 q other.0 ∙ get-removed_elsewhere whole e.0 q other.0) (same_or_other q e.0)) in
+    ⊎_elim (λ (same : q ≡ e.0). ap (get (insert rest e.0 e.1)) same ∙ get-inserted rest e.0 e.1 ∙ sym (within e.0 e.1 here) ∙ ap (get whole) (sym same))
+    (λ other. get-inserted_elsewhere rest e.0 e.1 q other.0 ∙ get-removed_elsewhere whole e.0 q other.0) (same_or_other q e.0)) in
     let new : contains_key rest e.0 ≡ false = ap is_some (get-removed whole e.0) in
     let count : len whole ≡ len rest + 1 = ap len (sym again) ∙ len-insert nat_list_cmp_total rest e.0 e.1 ∙ ap (λ b. cond b (len rest) (len rest + 1)) new in
     let behind : length es ≤ len rest = fewer-found es rest (second_test _ _ h) (λ q v found.
-        ⊎_elim (λ (same : q ≡ e.0). absurd (found-not _ v (ap (λ k. find order k es) same ∙ find_before e.0 es (first_test _ _ h)) found))
-        (λ other. get-removed_elsewhere whole e.0 q other.0 ∙ within q v (ap (λ b. cond b (Some e.1) (find order q es)) other.1 ∙ found)) (same_or_other q e.0)) in
-    omega (arith, count, behind)
+    ⊎_elim (λ (same : q ≡ e.0). absurd (found-not _ v (ap (λ k. find order k es) same ∙ find_before e.0 es (first_test _ _ h)) found))
+    (λ other. get-removed_elsewhere whole e.0 q other.0 ∙ within q v (ap (λ b. cond b (Some e.1) (find order q es)) other.1 ∙ found)) (same_or_other q e.0)) in
+    one_more (length es) (len rest) (len whole) behind count
 
 pub fewer-within : (part whole : State) → IsWithin part whole → length (entries part) ≤ length (entries whole)
 fewer-within part whole within =

@@ -55,9 +55,9 @@ module _ (blocks : ForkState) (flat : FlatState) (well : IsForkState blocks) (is
       by_lines tree well.tree (λ q. (state : State) → laid_over flat.deltas (passed tree q) state ≡ laid_along blocks (passed tree q) state)
       (λ state. ap (λ ids. laid_over flat.deltas ids state) (passed-head tree well.tree) ∙ sym (ap (λ ids. laid_along blocks ids state) (passed-head tree well.tree)))
       (λ q c found other stands before state.
-          ap (λ ids. laid_over flat.deltas ids state) (passed-over tree well.tree q c found other) ∙ laid-push flat.deltas (passed tree c.prev) q state
-          ∙ ap (λ (s : State). after s (delta_of flat.deltas q)) (before state) ∙ ap (after (laid_along blocks (passed tree c.prev) state)) (delta-kept q other)
-          ∙ sym (ap (λ ids. laid_along blocks ids state) (passed-over tree well.tree q c found other) ∙ laid_along-push blocks (passed tree c.prev) q state)) id b at
+      ap (λ ids. laid_over flat.deltas ids state) (passed-over tree well.tree q c found other) ∙ laid-push flat.deltas (passed tree c.prev) q state
+      ∙ ap (λ (s : State). after s (delta_of flat.deltas q)) (before state) ∙ ap (after (laid_along blocks (passed tree c.prev) state)) (delta-kept q other)
+      ∙ sym (ap (λ ids. laid_along blocks ids state) (passed-over tree well.tree q c found other) ∙ laid_along-push blocks (passed tree c.prev) q state)) id b at
 
   pub state-told : (id : List ℕ) → is_live tree id ≡ true → state_at blocks id ≡ Some (map_of flat tree id)
   state-told id live =
@@ -134,7 +134,7 @@ block-added most blocks header changes old new id named fine is head deltas =
             ∙ ap (λ b. option_map (λ (x : Block). x.changes) (cond b (Some (over_prev header changes prev)) None)) (ap (bytes_eq id) named ∙ same-itself id))
         by_test q false other =
             is.deltas q ∙ ap (λ (o : Option Block). cond (bytes_eq q blocks.head) None (option_map (λ (x : Block). x.changes) o)) (sym (
-                found-push block_key blocks.blocks (over_prev header changes prev) q ∙ ap (λ b. option_or (block_at blocks.blocks q) (cond b (Some (over_prev header changes prev)) None)) (ap (bytes_eq q) named ∙ other) ∙ or_none (block_at blocks.blocks q)))
+            found-push block_key blocks.blocks (over_prev header changes prev) q ∙ ap (λ b. option_or (block_at blocks.blocks q) (cond b (Some (over_prev header changes prev)) None)) (ap (bytes_eq q) named ∙ other) ∙ or_none (block_at blocks.blocks q)))
           where
             or_none : (o : Option Block) → option_or o None ≡ o
             or_none None = refl

@@ -20,3 +20,7 @@ pub mod Follows
 pub mod Moved
 -- what holds of the tables
 pub mod Kept
+-- what a move passes
+pub mod Planned
+-- how many keys are changed
+pub mod Counts

@@ -36,11 +36,11 @@ kept_by false true false false x on under one = refl
 kept_by false false false false x on under one = refl
 
 module _ (tree : BlockTree) (id : List ℕ) where
-  goes : List ℕ → Bool
+  abbrev goes : List ℕ → Bool
   goes q = not (is_among q (line tree id)) && not (descends tree id q)
 
   among-dropped : (q : List ℕ) (b : Header) → block_of tree.blocks q ≡ Some b → is_among q (dropped tree id) ≡ goes q
-  unfolding dropped block_of
+  unfolding dropped block_of line
   among-dropped q b at =
       ap (is_among q) (filter-map goes id_key tree.blocks) ∙ among_ids id_key (filter (λ (h : Header). goes h.id) tree.blocks) q ∙ ap is_some (found-filter id_key goes tree.blocks q)
       ∙ ap (λ (o : Option Header). is_some (cond (goes q) o None)) at ∙ by_test (goes q)
@@ -53,7 +53,7 @@ module _ (blocks : ForkState) (old new : FlatState) (id : List ℕ) (plan : Move
   abbrev tree : BlockTree
   tree = tree_of_blocks blocks
 
-  target : Header
+  abbrev target : Header
   target = (found_live (block_of tree.blocks id) planned.live).0
 
   target-at : block_of tree.blocks id ≡ Some target

@@ -57,11 +57,7 @@ pub(crate) fn lay_passed(
 }
 
 /// Takes the delta of a block out, if the block has one, and lays it over the head's map.
-fn lay_block(
-    head: &mut HashMap<Vec<u8>, Text>,
-    deltas: &mut HashMap<Digest, Changes>,
-    id: &Digest,
-)
+fn lay_block(head: &mut HashMap<Vec<u8>, Text>, deltas: &mut HashMap<Digest, Changes>, id: &Digest)
     requires room { length (entries (delta_of (deltas_of deltas.old.entries) id.now.0)) ≤ spare head.old }
     requires pairs { AllByRecursion IsPair (entries (head_of head.old.entries)) }
     ensures head { head_of head.new.entries ≡ after (head_of head.old.entries) (delta_of (deltas_of deltas.old.entries) id.now.0) }

@@ -11,4 +11,4 @@ returns-clause-ok c =
 pub returns-clause-changes : goal.returns-clause-changes
 returns-clause-changes c =
     on_ok c.note_rows.result (λ noted. joined-changes (changes_of c.note_rows.new.newest.entries) (changes_of c.args.newest.now.entries) c.args.changes.now.changes (joined-rows _ _ _ _ (ap shown c.as_slice.ensures.value ∙ c.in_ok-rows.ensures.rows) noted)
-        c.requires.changes c.in_ok-rows.ensures.held.each) c.note_rows.ensures
+    c.requires.changes c.in_ok-rows.ensures.held.each) c.note_rows.ensures

@@ -18,7 +18,7 @@ pub returns-in_err-put_changed-clause-full : goal.returns-in_err-put_changed-cla
 returns-in_err-put_changed-clause-full c = λ full.
     let more = c.in_err-put_changed.ensures.full (passed_on c.from_residual-in_err-put_changed.result c.in_err-put_changed.field-0.0 _ c.from_residual-in_err-put_changed.ensures.1 full) in
     let whole : after c.put_unchanged.new.pairs.state (changes_of c.args.newest.entries) ≡ after (head_of c.args.head.now.entries) (changes_of c.args.newest.entries)
-        = ap (λ (s : State). after s (changes_of c.args.newest.entries)) c.in_ok-put_unchanged.ensures.ok ∙ unchanged-after c.args.head.now.entries c.args.newest.entries in
+    = ap (λ (s : State). after s (changes_of c.args.newest.entries)) c.in_ok-put_unchanged.ensures.ok ∙ unchanged-after c.args.head.now.entries c.args.newest.entries in
     subst (λ (m : ℕ). m < length (entries (after (head_of c.args.head.now.entries) (changes_of c.args.newest.entries)))) (c.in_ok-put_unchanged.ensures.most ∙ c.new-pairs.ensures.most)
     (subst (λ (s : State). c.put_unchanged.new.pairs.most < length (entries s)) whole more)
 

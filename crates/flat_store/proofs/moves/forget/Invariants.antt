@@ -8,4 +8,4 @@ use Rattle.flat_store.proofs.moves.forget.Given as goal
 abbrev pub invariant-loop-place : goal.invariant-loop-place
 invariant-loop-place l =
     ((id : List ℕ) → get (deltas_of l.deltas.entries) id ≡ left_of (take l.place l.ids) id (get (deltas_of l.initial.deltas.entries) id)) × (length l.deltas.entries ≤ length l.initial.deltas.entries)
-        × (spare l.initial.deltas ≤ spare l.deltas)
+    × (spare l.initial.deltas ≤ spare l.deltas)

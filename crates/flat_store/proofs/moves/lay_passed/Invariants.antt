@@ -7,4 +7,4 @@ use Rattle.flat_store.proofs.moves.lay_passed.Given as goal
 abbrev pub invariant-loop-place : goal.invariant-loop-place
 invariant-loop-place l =
     IsPassing (deltas_of l.initial.deltas.entries) (deltas_of l.deltas.entries) l.passed l.place (head_of l.initial.head.entries) (head_of l.head.entries) (spare l.head) × (length l.deltas.entries ≤ length l.initial.deltas.entries)
-        × (spare l.initial.deltas ≤ spare l.deltas)
+    × (spare l.initial.deltas ≤ spare l.deltas)

@@ -37,7 +37,7 @@ returns-in-Some-get-clause-value c =
 pub returns-in-Some-get-clause-state : goal.returns-in-Some-get-clause-state
 returns-in-Some-get-clause-state c = λ blocks well same is.
     let value = ap Some c.as_slice.ensures ∙ c.in-Some-get.ensures.value ∙ sym (get-map _ c.args.key.now) ∙ ap (λ (s : FlatState). get s.head c.args.key.now) c.self.view_is
-        ∙ way-end c.args.forks.now.tree c.args.self.now c.args.key.now c.args.id.now.0 c.loop-prev.at.0 c.is_live.ensures.tree c.loop-prev.invariant (sym c.in_default.ensures) in
+    ∙ way-end c.args.forks.now.tree c.args.self.now c.args.key.now c.args.id.now.0 c.loop-prev.at.0 c.is_live.ensures.tree c.loop-prev.invariant (sym c.in_default.ensures) in
     state-has blocks c.args.self.now c.args.forks.now.tree c.args.id.now.0 (λ (state : State). Some c.as_slice.result.now ≡ get state c.args.key.now) well same is c.loop-prev.invariant.first value
 
 pub returns-in-None-clause-value : goal.returns-in-None-clause-value
@@ -48,5 +48,5 @@ returns-in-None-clause-value c =
 pub returns-in-None-clause-state : goal.returns-in-None-clause-state
 returns-in-None-clause-state c = λ blocks well same is.
     let value = c.in-None.ensures.value ∙ sym (get-map _ c.args.key.now) ∙ ap (λ (s : FlatState). get s.head c.args.key.now) c.self.view_is
-        ∙ way-end c.args.forks.now.tree c.args.self.now c.args.key.now c.args.id.now.0 c.loop-prev.at.0 c.is_live.ensures.tree c.loop-prev.invariant (sym c.in_default.ensures) in
+    ∙ way-end c.args.forks.now.tree c.args.self.now c.args.key.now c.args.id.now.0 c.loop-prev.at.0 c.is_live.ensures.tree c.loop-prev.invariant (sym c.in_default.ensures) in
     state-has blocks c.args.self.now c.args.forks.now.tree c.args.id.now.0 (λ (state : State). None ≡ get state c.args.key.now) well same is c.loop-prev.invariant.first value
