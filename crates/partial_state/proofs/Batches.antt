@@ -13,7 +13,7 @@ use Rattle.base_core.specs.ChangeMaps.{ChangeMap, changed}
 use Rattle.trie_model.proofs.Order.{Before}
 use Rattle.partial_model.specs.Recording.{RecordingFault, follows, change_at, changes_from}
 use Rattle.partial_model.proofs.Falls.{less_from}
-use Rattle.partial_state.proofs.Keys.{joined, joined-nothing, joined-one}
+use Rattle.text_store.proofs.Listing.{joined, joined-nothing, joined-one}
 
 -- ---- a key behind all others
 

@@ -1,25 +1,12 @@
 -- Reading so many keys, one after the other.
-use Rattle.std.proofs.Common.{◌≡◌, ℕ, suc, ◌+◌, ◌-◌, ◌<◌, List, [], ◌∷◌, ◌++◌, length, Ok, Err, refl, sym, ap, subst, ◌∙◌, arith, append_assoc, length-append}
+use Rattle.std.proofs.Common.{◌≡◌, ℕ, suc, ◌+◌, ◌-◌, ◌<◌, List, [], ◌∷◌, ◌++◌, length, Ok, Err, refl, sym, ap, subst, ◌∙◌, arith, length-append}
 use Rattle.std.proofs.lemmas.List.{append-nil}
 use Rattle.std.specs.List.{AllByRecursion}
 use Rattle.byte_model.specs.Nibbles.{longest_key}
 use Rattle.byte_model.proofs.Lists.{AllByRecursion-append}
-use Rattle.record_model.specs.Fields.{Cursor, ◌>>=◌}
-use Rattle.partial_model.specs.Recording.{RecordingFault, ReadHead, IsKey, most_reads, count_within, vector_within, keys_at, reads_at}
-
--- what was read, and then what a reading gives
-abbrev pub joined : {X : Type 0} → List X → ReadHead (List X) → ReadHead (List X)
-joined done (Ok r) = Ok (done ++ r.0, r.1)
-joined done (Err e) = Err e
-
-pub joined-nothing : {X : Type 0} (read : ReadHead (List X)) → joined [] read ≡ read
-joined-nothing (Ok r) = refl
-joined-nothing (Err e) = refl
-
--- one item, and then the others
-pub joined-one : {X : Type 0} (done : List X) (x : X) (read : ReadHead (List X)) → joined done (read >>= (λ others. Ok (x ∷ others.0, others.1))) ≡ joined (done ++ x ∷ []) read
-joined-one done x (Ok r) = ap (λ all. Ok (all, r.1)) (sym (append_assoc done (x ∷ []) r.0))
-joined-one done x (Err e) = refl
+use Rattle.record_model.specs.Fields.{Cursor}
+use Rattle.text_store.proofs.Listing.{joined, joined-nothing, joined-one}
+use Rattle.partial_model.specs.Recording.{RecordingFault, IsKey, most_reads, count_within, vector_within, keys_at, reads_at}
 
 -- after n keys of so many, the reading is told by these keys and the reading of those that are left
 pub record ReadsKeys (start : Cursor) (count : ℕ) (keys : List (List ℕ)) (n : ℕ) (now : Cursor) : Type 0 where

@@ -1,9 +1,9 @@
 -- What is read of a recording, part by part.
-use Rattle.std.proofs.Common.{◌≡◌, ℕ, ◌==◌, Bool, true, false, if◌then◌else◌, List, length, Result, Ok, Err, IsErrAnd, IfOk, refl, sym, ap, subst, ◌∙◌, arith}
+use Rattle.std.proofs.Common.{◌≡◌, ℕ, List, length, Result, Ok, Err, IsErrAnd, IfOk, refl, sym, ap, subst, ◌∙◌, arith}
 use Rattle.std.specs.FinMap.{entries, from_sorted}
 use Rattle.byte_model.specs.Nibbles.{AreBytes}
 use Rattle.byte_model.specs.Node.{digest_width}
-use Rattle.record_model.specs.Fields.{FrameFault, rest, Cursor, start_of, bytes_at, end_of}
+use Rattle.record_model.specs.Fields.{FrameFault, Cursor, start_of, bytes_at, end_of}
 use Rattle.batch_model.specs.Changes.{Changes, Change}
 use Rattle.trie_model.specs.Root.{NoClash}
 use Rattle.partial_model.specs.Partial as partial
@@ -16,33 +16,12 @@ use Rattle.base_core.specs.Reading.{fault_of}
 use Rattle.text_store.specs.declared.errors.PartialError.{PartialError}
 use Rattle.text_store.specs.declared.errors.PartialError.TheVariants as errors
 use Rattle.text_store.specs.PartialStates as texts
+use Rattle.text_store.proofs.Answering.{end_fault, end_reached}
 use Rattle.text_store.proofs.Listing.{passed_on}
 use Rattle.partial_state.specs.declared.proof.Proof.{Proof}
 use Rattle.partial_state.specs.declared.proof_error.ProofError.{ProofError}
 use Rattle.partial_state.specs.Operations.{AreReads}
 use Rattle.partial_state.specs.Recordings.{AnswersRecording, IsRefused, passed}
-
--- ---- bytes are left over
-
-end_fault : {X : Type 0} (x : X) (d : Cursor) (fault : FrameFault) → end_of {X = Unit {0}} tt d ≡ Err fault → end_of x d ≡ Err fault
-unfolding end_of
-end_fault {X} x d fault e = go (length d.left == 0) e
-  where
-    fault_in : Result (Unit {0}) FrameFault → Result X FrameFault
-    fault_in (Ok y) = Ok x
-    fault_in (Err f) = Err f
-
-    go : (b : Bool) → (if b then Ok (tt {0}) else Err (rest d.at)) ≡ Err fault → (if b then Ok x else Err (rest d.at)) ≡ Err fault
-    go true k = cc
-    go false k = ap fault_in k
-
-end_reached : {X : Type 0} (x : X) (d : Cursor) → end_of {X = Unit {0}} tt d ≡ Ok (tt {0}) → end_of x d ≡ Ok x
-unfolding end_of
-end_reached x d e = go (length d.left == 0) e
-  where
-    go : (b : Bool) → (if b then Ok (tt {0}) else Err (rest d.at)) ≡ Ok (tt {0}) → (if b then Ok x else Err (rest d.at)) ≡ Ok x
-    go true k = refl
-    go false k = cc
 
 -- ---- part by part
 

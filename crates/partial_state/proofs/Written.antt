@@ -1,6 +1,7 @@
 -- Writing reads, texts and changes, one after the other.
-use Rattle.std.proofs.Common.{◌≡◌, ◌++◌, ◌+◌, ◌<◌, ◌≤◌, ◌^◌, List, [], ◌∷◌, ℕ, zero, suc, length, map, drop, slice_get, get_or, Bor, Option, None, Some, IfSome, sym, ap, subst, ◌∙◌, arith, append_assoc}
+use Rattle.std.proofs.Common.{◌≡◌, ◌++◌, ◌+◌, ◌<◌, ◌≤◌, ◌^◌, List, [], ◌∷◌, ℕ, length, map, drop, slice_get, get_or, Bor, Option, None, Some, IfSome, sym, ap, subst, ◌∙◌, arith, append_assoc}
 use Rattle.std.proofs.lemmas.List.{append-nil, drop_more, length-map}
+use Rattle.std.proofs.lemmas.Option.{slice_get_within, get_or_from_slice_get}
 use Rattle.std.proofs.Math.ListN.{drop_of_length-le, get_or-map}
 use Rattle.std.specs.List.{AllByRecursion}
 use Rattle.std.specs.Option.{option_copied}
@@ -52,14 +53,7 @@ all-written whole texts i written ended h = sym (append-nil written) ∙ ap (λ 
 
 -- a text at a place
 pub drop-at : (texts : List (List ℕ)) (i : ℕ) (text : List ℕ) → slice_get texts i ≡ Some text → drop i texts ≡ text ∷ drop (i + 1) texts
-drop-at [] i text e = cc
-drop-at (t ∷ ts) zero text e = ap (λ (u : List ℕ). u ∷ ts) (the_one t text e)
-  where
-    the_one : (u v : List ℕ) → Some u ≡ Some v → u ≡ v
-    the_one u v e = cc e
-drop-at (t ∷ ts) (suc i) text e =
-    let further : suc (i + 1) ≡ suc i + 1 = omega arith in
-    drop-at ts i text e ∙ ap (λ n. text ∷ drop n (t ∷ ts)) further
+drop-at texts i text e = drop_more texts i [] (slice_get_within texts i text e) ∙ ap (λ (u : List ℕ). u ∷ drop (i + 1) texts) (get_or_from_slice_get texts i text [] e)
 
 -- ---- changes
 

@@ -36,23 +36,23 @@ first_refused old new result error is h = passed_on (λ r. AnswersFirst r old ne
 
 -- ---- bytes are left over
 
-end_fault : (texts : List (List ℕ)) (d : Cursor) (fault : FrameFault) → end_of {X = Unit {0}} tt d ≡ Err fault → end_of texts d ≡ Err fault
+pub end_fault : {X : Type 0} (x : X) (d : Cursor) (fault : FrameFault) → end_of {X = Unit {0}} tt d ≡ Err fault → end_of x d ≡ Err fault
 unfolding end_of
-end_fault texts d fault e = go (length d.left == 0) e
+end_fault {X} x d fault e = go (length d.left == 0) e
   where
-    fault_in : Result (Unit {0}) FrameFault → Result (List (List ℕ)) FrameFault
-    fault_in (Ok x) = Ok texts
+    fault_in : Result (Unit {0}) FrameFault → Result X FrameFault
+    fault_in (Ok y) = Ok x
     fault_in (Err f) = Err f
 
-    go : (b : Bool) → (if b then Ok (tt {0}) else Err (rest d.at)) ≡ Err fault → (if b then Ok texts else Err (rest d.at)) ≡ Err fault
+    go : (b : Bool) → (if b then Ok (tt {0}) else Err (rest d.at)) ≡ Err fault → (if b then Ok x else Err (rest d.at)) ≡ Err fault
     go true k = cc
     go false k = ap fault_in k
 
-end_reached : (texts : List (List ℕ)) (d : Cursor) → end_of {X = Unit {0}} tt d ≡ Ok (tt {0}) → end_of texts d ≡ Ok texts
+pub end_reached : {X : Type 0} (x : X) (d : Cursor) → end_of {X = Unit {0}} tt d ≡ Ok (tt {0}) → end_of x d ≡ Ok x
 unfolding end_of
-end_reached texts d e = go (length d.left == 0) e
+end_reached x d e = go (length d.left == 0) e
   where
-    go : (b : Bool) → (if b then Ok (tt {0}) else Err (rest d.at)) ≡ Ok (tt {0}) → (if b then Ok texts else Err (rest d.at)) ≡ Ok texts
+    go : (b : Bool) → (if b then Ok (tt {0}) else Err (rest d.at)) ≡ Ok (tt {0}) → (if b then Ok x else Err (rest d.at)) ≡ Ok x
     go true k = refl
     go false k = cc
 

@@ -17,19 +17,24 @@ abbrev pub bytes_of : List (Bor (List ℕ)) → List (List ℕ)
 bytes_of texts = map (λ text. text.now) texts
 
 -- what was read, and then what a reading gives
-abbrev pub joined : List (List ℕ) → Read (List (List ℕ)) → Read (List (List ℕ))
+abbrev pub joined : {X E : Type 0} → List X → Result (List X × Cursor) E → Result (List X × Cursor) E
 joined done (Ok r) = Ok (done ++ r.0, r.1)
 joined done (Err e) = Err e
+
+pub joined-nothing : {X E : Type 0} (read : Result (List X × Cursor) E) → joined [] read ≡ read
+joined-nothing (Ok r) = refl
+joined-nothing (Err e) = refl
+
+-- one item, and then the others
+pub joined-one : {X E : Type 0} (done : List X) (x : X) (read : Result (List X × Cursor) E) → joined done (read >>= (λ others. Ok (x ∷ others.0, others.1))) ≡ joined (done ++ x ∷ []) read
+joined-one done x (Ok r) = ap (λ all. Ok (all, r.1)) (sym (append_assoc done (x ∷ []) r.0))
+joined-one done x (Err e) = refl
 
 -- after n texts of so many, the reading is told by these texts and the reading of those that are left
 pub record IsListing (start : Cursor) (count : ℕ) (texts : List (Bor (List ℕ))) (n : ℕ) (now : Cursor) : Type 0 where
   pub told : texts_at count start ≡ joined (bytes_of texts) (texts_at (count - n) now)
   pub long : length texts ≡ n
   pub short : AllByRecursion (λ text. length text.now < 2 ^ 32) texts
-
-joined-nothing : (read : Read (List (List ℕ))) → joined [] read ≡ read
-joined-nothing (Ok r) = refl
-joined-nothing (Err e) = refl
 
 pub IsListing-init : (start : Cursor) (count : ℕ) (texts : List (Bor (List ℕ))) → texts ≡ [] → IsListing start count texts 0 start
 IsListing-init start count texts none =
@@ -39,11 +44,7 @@ IsListing-init start count texts none =
 
 one_more : (n : ℕ) (now : Cursor) (text : List ℕ) (next : Cursor) (done : List (List ℕ)) → vector_at now ≡ Ok (text, next) → joined done (texts_at (suc n) now) ≡ joined (done ++ text ∷ []) (texts_at n next)
 unfolding texts_at
-one_more n now text next done e = rw e (go (texts_at n next))
-  where
-    go : (read : Read (List (List ℕ))) → joined done (read >>= (λ others. Ok (text ∷ others.0, others.1))) ≡ joined (done ++ text ∷ []) read
-    go (Ok r) = ap (λ (all : List (List ℕ)). Ok (all, r.1)) (sym (append_assoc done (text ∷ []) r.0))
-    go (Err f) = refl
+one_more n now text next done e = rw e (joined-one done text (texts_at n next))
 
 pub IsListing-more : (start now next : Cursor) (count : ℕ) (texts : List (Bor (List ℕ))) (n : ℕ) (text : Bor (List ℕ)) → n < count → IsListing start count texts n now → vector_at now ≡ Ok (text.now, next) → length text.now < 2 ^ 32 → IsListing start count (texts ++ text ∷ []) (n + 1) next
 IsListing-more start now next count texts n text more h e short =
