@@ -162,6 +162,13 @@ module _ {X : Type 0} where
     kept-taken (Ok x) es after most k v value kept put_in same taken new = kept-put es after most k v kept put_in new (taken_room (shown_map es) most k.items value taken)
     kept-taken {bound} (Err x) es after most k v value kept put_in same taken new = subst (λ xs. IsKeptSorted IsEntry bound xs most) (sym same) kept
 
+    -- the first entry is one that may be
+    pub first-is : {bound : ℕ} (e : Vec ℕ Global × X) (es after : Kept X) (most : ℕ) → IsKeptSorted IsEntry bound es most → es ≡ e ∷ after → IsEntry (e.0.items, e.1)
+    first-is {bound} e es after most kept taken =
+        let whole : IsKeptSorted IsEntry bound (e ∷ after) most = subst (λ xs. IsKeptSorted IsEntry bound xs most) taken kept in
+        let each : AllByRecursion IsEntry (shown_entries (e ∷ after)) = subst (AllByRecursion IsEntry) (entries-shown (e ∷ after) whole.sorted) whole.held.each in
+        each.0
+
     -- the first entry was taken out, or there was none
     pub kept-first : {bound : ℕ} (first : Option (Vec ℕ Global × X)) (es after : Kept X) (most : ℕ)
         → IsKeptSorted IsEntry bound es most → IfSome first (λ e. es ≡ e ∷ after) → IfNone first (after ≡ es) → IsKeptSorted IsEntry bound after most

@@ -1,4 +1,5 @@
 pub mod ByteMaps
 pub mod Faults
+pub mod HashTables
 pub mod KeptMaps
 pub mod ChangeMaps

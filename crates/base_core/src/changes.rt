@@ -4,7 +4,7 @@ ghost use Rattle.std.specs.List.{cons_option, slice_get};
 ghost use Rattle.std.specs.FinMap.{entries, empty, get};
 ghost use Rattle.byte_model.specs.Node.{longest_value};
 ghost use Rattle.trie_model.specs.State.{longest_key};
-ghost use Rattle.batch_model.specs.Changes.{most_changes};
+ghost use Rattle.batch_model.specs.Changes.{IsChange, most_changes};
 ghost use Rattle.base_core.specs.declared.put_error.PutError.TheVariants.{NoMemory};
 ghost use Rattle.base_core.specs.KeptMaps.{shown_entries};
 ghost use Rattle.base_core.specs.ChangeMaps.{IsChangeMap, change_refusal, changed};
@@ -113,6 +113,7 @@ impl Changes {
     pub fn take_first(&mut self) -> Option<(Text, Option<Text>)>
         ensures changes { entries self.old.changes ≡ cons_option result (entries self.new.changes) }
         ensures none { IfNone result (entries self.new.changes ≡ []) }
+        ensures held { IfSome result (λ change. IsChange change) }
         ensures most { self.new.most ≡ self.old.most }
     {
         let Some((key, value)) = self.changes.pop_first() else {

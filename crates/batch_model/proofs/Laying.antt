@@ -75,7 +75,7 @@ module _ {X : Type 0} where
 
 -- ---- what a key has after a batch
 
-get-after_change : (state : State) (change : Change) (q : List ℕ) → get (after_change state change) q ≡ cond (ties q change.0) change.1 (get state q)
+pub get-after_change : (state : State) (change : Change) (q : List ℕ) → get (after_change state change) q ≡ cond (ties q change.0) change.1 (get state q)
 unfolding after_change
 get-after_change state (key, None) q = get-remove nat_list_cmp_total state key q
 get-after_change state (key, Some value) q = get-insert nat_list_cmp_total state key value q

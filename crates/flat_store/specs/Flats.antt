@@ -1,5 +1,5 @@
 -- What is kept of the live blocks: the map of the head, and the changes of each other block (this project's own, after nearcore's flat storage).
-use Rattle.std.specs.Prelude.{◌≡◌, ℕ, List, [], ◌∷◌, ◌++◌, map, sum_by, length, Option, None, Some, is_some, if◌then◌else◌, ◌||◌, refl}
+use Rattle.std.specs.Prelude.{◌≡◌, ℕ, List, [], ◌∷◌, sum_by, length, Option, None, Some, is_some, if◌then◌else◌, refl}
 use Rattle.std.specs.Option.{unwrap_or}
 use Rattle.std.specs.Ordering.{nat_cmp}
 use Rattle.std.specs.Cmp.Lexicographic.{slice_cmp}
@@ -36,10 +36,14 @@ flat_state_code =
 abbrev pub HasSameBlocks : BlockTree → Deltas → Type 0
 HasSameBlocks tree deltas = (id : List ℕ) → is_some (get deltas id) ≡ is_some (prev_of tree id)
 
+-- the changes of a block, and none of a block that has none
+abbrev pub delta_of : Deltas → List ℕ → Changes
+delta_of deltas id = unwrap_or (get deltas id) empty
+
 -- a map with the changes of blocks laid over, one block after the other
 unfoldable pub laid_over : Deltas → List (List ℕ) → State → State
 laid_over deltas [] state = state
-laid_over deltas (id ∷ ids) state = laid_over deltas ids (after state (unwrap_or (get deltas id) empty))
+laid_over deltas (id ∷ ids) state = laid_over deltas ids (after state (delta_of deltas id))
 
 -- The map of a live block: that of the head, with the changes of all blocks laid over that a move to it passes.
 abbrev pub map_of : FlatState → BlockTree → List ℕ → State

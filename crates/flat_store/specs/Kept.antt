@@ -1,17 +1,16 @@
 -- How it is kept: hash tables, one with the head's values by their keys, and one with the changes of each block by its id.
 use Rattle.std.specs.Prelude.{ℕ, ◌≤◌, ◌+◌, List, [], ◌∷◌, map, length, Option, is_some, not, nat_eq, Vec}
-use Rattle.std.specs.Option.{unwrap_or}
 use Rattle.std.specs.List.{AllByRecursion}
 use Rattle.std.specs.Map.{lookup}
 use Rattle.std.specs.Cmp.Lexicographic.{pointwise}
-use Rattle.std.specs.FinMap.{from_entries, entries, get, empty, retain_keys}
+use Rattle.std.specs.FinMap.{from_entries, entries, retain_keys}
 use Rattle.std.specs.declared.alloc.Global.{Global}
 use Rattle.trie_model.specs.State.{State, IsPair}
 use Rattle.batch_model.specs.Changes.{Changes}
 use Rattle.base_core.specs.Bounds.{most_blocks}
 use Rattle.base_core.specs.ChangeMaps.{ChangeMap}
 use Rattle.base_core.specs.declared.hash.Digest.{Digest}
-use Rattle.flat_store.specs.Flats.{Deltas}
+use Rattle.flat_store.specs.Flats.{Deltas, delta_of}
 
 -- the entries of a table by keys, and what it has at a key
 abbrev pub ByKey : Type 0 → Type 0
@@ -41,7 +40,7 @@ unchanged head newest = retain_keys (head_of head) (λ key. not (is_some (held n
 -- how many keys some blocks change, each block by itself
 unfoldable pub keys_along : Deltas → List (List ℕ) → ℕ
 keys_along deltas [] = 0
-keys_along deltas (id ∷ ids) = length (entries (unwrap_or (get deltas id) empty)) + keys_along deltas ids
+keys_along deltas (id ∷ ids) = length (entries (delta_of deltas id)) + keys_along deltas ids
 
 -- Keys and values are within the limits, and no more blocks have changes than may be live.
 pub record IsKept (values : ByKey (List ℕ)) (batches : Batches) : Type 0 where

@@ -1,6 +1,6 @@
 ghost use Rattle.std.specs.Prelude.{◌≡◌, ◌+◌, ◌≤◌, ℕ, List, false, length, map, IfOk, OnOk, Err, ◌↔◌, None};
 ghost use Rattle.std.specs.Option.{option_map};
-ghost use Rattle.fork_model.specs.Trees.{block_fault, grown, is_live, moved, prev_of, start};
+ghost use Rattle.fork_model.specs.Trees.{IsTree, block_fault, grown, is_live, moved, prev_of, start};
 ghost use Rattle.fork_tree.specs.Answers.{IsPlan, checked};
 
 use crate::block::Block;
@@ -122,7 +122,8 @@ impl Forks {
 
     /// Whether a block with the id is live. It takes no memory.
     pub fn is_live(&self, id: &Digest) -> bool
-        ensures { result ≡ is_live self.now.tree id.now.0 }
+        ensures live { result ≡ is_live self.now.tree id.now.0 }
+        ensures tree { IsTree self.now.tree }
     {
         self.places.contains_key(id)
     }
