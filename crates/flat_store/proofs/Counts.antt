@@ -1,30 +1,29 @@
 -- How many keys are changed, and how many blocks have changes.
-use Rattle.std.proofs.Common.{◌≡◌, ℕ, ◌+◌, ◌*◌, ◌≤◌, Bool, true, false, cond, not, List, [], ◌∷◌, filter, length, map, sum_by, Option, None, Some, Ordering, Less, Equal, Greater, refl, sym, ap, subst, ◌∙◌, arith}
+use Rattle.std.proofs.Common.{◌≡◌, ℕ, ◌+◌, Bool, true, false, cond, not, List, [], ◌∷◌, filter, length, map, sum_by, Option, None, Some, Less, Equal, Greater, refl, sym, ap, subst, ◌∙◌, arith}
 use Rattle.std.specs.Prelude.{nat_eq}
 use Rattle.std.specs.Ordering.{is_eq}
 use Rattle.std.specs.Option.{option_map}
-use Rattle.std.specs.Map.{keys_of, lookup}
+use Rattle.std.specs.Map.{keys_of}
 use Rattle.std.specs.List.{AllByRecursion, IsDistinct}
 use Rattle.std.specs.Str.{bytes_eq}
 use Rattle.std.specs.Cmp.Lexicographic.{nat_list_cmp_total, pointwise}
 use Rattle.std.proofs.lemmas.List.Sums.{sum_by-cons}
 use Rattle.std.proofs.lemmas.Map.Lookups.{exact_bytes}
 use Rattle.std.proofs.lemmas.Map.Made.{IsDistinct-keys_filter}
-use Rattle.std.specs.FinMap.{FinMap, empty, entries, find, get, insert, get-entries, entries-insert, len-empty, len-entries, same_map}
+use Rattle.std.specs.FinMap.{empty, entries, find, get-entries, entries-insert, len-empty, len-entries, same_map}
 use Rattle.std.specs.FinMap.Entries.{by_order, put}
 use Rattle.batch_model.specs.Changes.{Changes}
 use Rattle.base_core.specs.ChangeMaps.{ChangeMap}
 use Rattle.base_core.specs.declared.hash.Digest.{Digest}
 use Rattle.base_core.proofs.ByteMaps.{order}
 use Rattle.base_core.proofs.HashTables.{apart-seen, found, get-seen, len-seen, seen}
-use Rattle.fork_model.specs.Trees.{BlockTree, Header, IsTree, ids_of}
+use Rattle.fork_model.specs.Trees.{ids_of}
 use Rattle.fork_model.specs.Laws.{first_id}
-use Rattle.fork_model.specs.States.{Block, ForkState, IsForkState, block_at, changes_at, kept_changes, tree_of_blocks}
+use Rattle.fork_model.specs.States.{Block, ForkState, IsForkState, block_at, kept_changes, tree_of_blocks}
 use Rattle.fork_model.proofs.Ids.{same_from, same-itself}
 use Rattle.fork_model.proofs.Partition.{ids_apart}
 use Rattle.fork_model.proofs.Told.{first-head}
-use Rattle.fork_tree.proofs.Kept.{turned}
-use Rattle.flat_store.specs.Flats.{Deltas, FlatState, IsFlatOf, kept_of, keys_changed}
+use Rattle.flat_store.specs.Flats.{Deltas, FlatState, IsFlatOf, keys_changed}
 use Rattle.flat_store.specs.Kept.{Batches, deltas_of}
 
 -- how many keys a list of changes has, each entry by itself

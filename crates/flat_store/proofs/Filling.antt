@@ -1,14 +1,13 @@
 -- A map that is filled with pairs, entry by entry of a table.
-use Rattle.std.proofs.Common.{◌≡◌, ◌≢◌, ℕ, ◌+◌, ◌≤◌, ◌<◌, Bool, true, false, cond, T, List, [], ◌∷◌, length, Option, None, Some, is_some, Vec, refl, sym, ap, subst, ◌∙◌, ⊎_elim, arith, suc}
-use Rattle.std.specs.Prelude.{nat_eq}
-use Rattle.std.specs.Cmp.Lexicographic.{nat_list_cmp_total, pointwise, texts_ties}
+use Rattle.std.proofs.Common.{◌≡◌, ℕ, ◌+◌, ◌≤◌, ◌<◌, false, cond, T, List, [], ◌∷◌, length, Option, None, Some, is_some, Vec, refl, sym, ap, subst, ◌∙◌, ⊎_elim, arith, suc}
+use Rattle.std.specs.Cmp.Lexicographic.{nat_list_cmp_total, texts_ties}
 use Rattle.std.proofs.lemmas.Map.Lookups.{exact_bytes}
-use Rattle.std.specs.FinMap.{contains_key, entries, entries_sorted, find, get, insert, is_sorted, len, remove, get-entries, get-insert, len-entries, len-insert, same_map}
+use Rattle.std.specs.FinMap.{contains_key, entries, entries_sorted, find, get, insert, is_sorted, len, remove, get-entries, len-entries, len-insert, same_map}
 use Rattle.std.specs.declared.alloc.Global.{Global}
 use Rattle.trie_model.specs.State.{State}
 use Rattle.trie_model.proofs.Order.{first_test, second_test}
 use Rattle.batch_model.proofs.Laying.{find_before}
-use Rattle.base_core.proofs.ByteMaps.{order, is_same, is_same-itself, other_is, same_from, same_or_other, get-inserted, get-inserted_elsewhere, get-removed, get-removed_elsewhere}
+use Rattle.base_core.proofs.ByteMaps.{order, is_same, is_same-itself, same_or_other, get-inserted, get-inserted_elsewhere, get-removed, get-removed_elsewhere}
 use Rattle.flat_store.specs.Kept.{ByKey, held}
 
 -- ---- a part of a map has no more pairs

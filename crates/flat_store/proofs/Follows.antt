@@ -1,26 +1,22 @@
 -- What is kept of live blocks with their states, and what it tells of them.
-use Rattle.std.proofs.Common.{◌≡◌, ◌≢◌, ℕ, ◌+◌, ◌<◌, Bool, true, false, cond, not, ◌&&◌, ◌||◌, List, [], ◌∷◌, ◌++◌, filter, length, map, Option, None, Some, is_some, sum_by, refl, sym, ap, subst, ◌∙◌, arith}
+use Rattle.std.proofs.Common.{◌≡◌, ◌≢◌, ℕ, Bool, true, false, cond, List, [], ◌∷◌, ◌++◌, Option, None, Some, is_some, refl, sym, ap, subst, ◌∙◌}
 use Rattle.std.specs.Option.{option_map, option_or, unwrap_or, IsSomeAnd}
 use Rattle.std.specs.Str.{bytes_eq}
 use Rattle.std.specs.Cmp.Lexicographic.{nat_list_cmp_total, texts_ties}
-use Rattle.std.specs.FinMap.{empty, entries, get, insert, get-empty, get-insert}
+use Rattle.std.specs.FinMap.{empty, get, insert, get-empty, get-insert}
 use Rattle.trie_model.specs.State.{State}
 use Rattle.trie_model.specs.Root.{zero_digest}
 use Rattle.batch_model.specs.Changes.{Changes, after}
-use Rattle.base_core.proofs.ByteMaps.{is_same, order}
-use Rattle.fork_model.specs.Trees.{BlockTree, Header, IsTree, block_fault, block_of, descends, dropped, ids_of, is_among, is_live, line, passed, prev_of}
-use Rattle.fork_model.specs.States.{Block, ForkState, IsForkState, block_at, changes_at, first_fork, head_moved, laid_along, state_at, tree_of_blocks, with_block}
-use Rattle.fork_model.proofs.Ids.{apart_is, found-filter, found-push, found-push_new, found-push_old, same-itself, same_from, same_or_other, apart_from}
-use Rattle.fork_model.proofs.Descent.{descends-both, descends-itself}
+use Rattle.base_core.proofs.ByteMaps.{order}
+use Rattle.fork_model.specs.Trees.{BlockTree, Header, block_fault, block_of, is_live, passed}
+use Rattle.fork_model.specs.States.{Block, ForkState, IsForkState, block_at, changes_at, first_fork, laid_along, state_at, tree_of_blocks, with_block}
+use Rattle.fork_model.proofs.Ids.{apart_is, found-push, found-push_new, found-push_old, same-itself, same_from}
 use Rattle.fork_model.proofs.Faults.{IsAccepted, accepted}
-use Rattle.fork_model.proofs.Lines.{PrevOf, StandsIn, by_lines, id_key, prev_from}
-use Rattle.fork_model.proofs.Partition.{among_ids, filter-map}
-use Rattle.fork_model.proofs.Passed.{line-passed, passed-head, passed-over}
+use Rattle.fork_model.proofs.Lines.{by_lines, prev_from}
+use Rattle.fork_model.proofs.Passed.{passed-head, passed-over}
 use Rattle.fork_model.proofs.States.{block_key, block_of-at, over_prev, with_block-is}
-use Rattle.fork_model.proofs.Told.{found_live, states-along, states-kept}
-use Rattle.fork_tree.proofs.Kept.{turned}
-use Rattle.fork_tree.specs.Answers.{IsPlan}
-use Rattle.flat_store.specs.Flats.{Deltas, FlatState, HasSameBlocks, IsFlatOf, delta_of, kept_of, laid_over, left_of, map_of}
+use Rattle.fork_model.proofs.Told.{found_live, states-along}
+use Rattle.flat_store.specs.Flats.{Deltas, FlatState, HasSameBlocks, IsFlatOf, delta_of, kept_of, laid_over, map_of}
 use Rattle.flat_store.proofs.Ways.{laid-push}
 
 -- ---- the live blocks

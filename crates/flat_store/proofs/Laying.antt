@@ -1,10 +1,9 @@
 -- Changes laid over a map, one change after the other.
-use Rattle.std.proofs.Common.{◌≡◌, ℕ, ◌≤◌, ◌+◌, ◌<◌, List, [], ◌∷◌, length, Option, None, Some, refl, sym, ap, subst, ◌∙◌, arith, suc}
+use Rattle.std.proofs.Common.{◌≡◌, ℕ, ◌≤◌, ◌+◌, [], ◌∷◌, length, Some, refl, sym, ap, ◌∙◌, arith, suc}
 use Rattle.std.specs.List.{AllByRecursion, cons_option}
 use Rattle.std.specs.FinMap.{entries}
 use Rattle.trie_model.specs.State.{State, IsPair}
-use Rattle.batch_model.specs.Changes.{Change, Changes, IsChange, after, after_change, after_each}
-use Rattle.flat_store.proofs.Tables.{pairs-change}
+use Rattle.batch_model.specs.Changes.{Change, Changes, after, after_change, after_each}
 
 -- What a map is while changes are laid over it: with those laid over that are left, it is the map with all of them. Of each change one place is taken at most.
 pub record IsLaying (start now : State) (whole rest : Changes) (first spare : ℕ) : Type 0 where

@@ -1,13 +1,13 @@
 -- A read of one key, on the way from a live block to the head.
-use Rattle.std.proofs.Common.{◌≡◌, ℕ, Bool, true, false, List, Option, None, Some, refl, sym, ap, subst, ◌∙◌}
+use Rattle.std.proofs.Common.{◌≡◌, ℕ, true, List, Option, None, Some, refl, sym, ap, ◌∙◌}
 use Rattle.std.specs.Option.{option_and_then, option_map, unwrap_or}
 use Rattle.std.specs.FinMap.{empty, get, get-empty}
 use Rattle.trie_model.specs.State.{State}
-use Rattle.batch_model.specs.Changes.{Changes, after, decided}
+use Rattle.batch_model.specs.Changes.{Changes, decided}
 use Rattle.batch_model.proofs.Laying.{get-after}
 use Rattle.base_core.proofs.ByteMaps.{order}
-use Rattle.fork_model.specs.Trees.{BlockTree, IsTree, is_live, passed, prev_of}
-use Rattle.flat_store.specs.Flats.{Deltas, FlatState, delta_of, laid_over, map_of}
+use Rattle.fork_model.specs.Trees.{BlockTree, IsTree, is_live, prev_of}
+use Rattle.flat_store.specs.Flats.{Deltas, FlatState, delta_of, map_of}
 use Rattle.base_core.specs.ChangeMaps.{ChangeMap}
 use Rattle.flat_store.specs.Kept.{Batches, deltas_of}
 use Rattle.flat_store.proofs.Tables.{batch_at, get-deltas}

@@ -1,12 +1,11 @@
 -- What is kept after a move of the head.
-use Rattle.std.proofs.Common.{◌≡◌, ◌≢◌, ℕ, Bool, true, false, cond, not, ◌&&◌, ◌||◌, List, [], ◌∷◌, filter, map, Option, None, Some, is_some, refl, sym, ap, subst, ◌∙◌}
+use Rattle.std.proofs.Common.{◌≡◌, ℕ, Bool, true, false, cond, not, ◌&&◌, ◌||◌, List, filter, Option, None, Some, is_some, refl, sym, ap, ◌∙◌}
 use Rattle.std.specs.Option.{option_map}
 use Rattle.std.specs.Str.{bytes_eq}
 use Rattle.std.specs.FinMap.{get}
-use Rattle.trie_model.specs.State.{State}
 use Rattle.batch_model.specs.Changes.{Changes}
-use Rattle.fork_model.specs.Trees.{BlockTree, Header, block_of, descends, dropped, ids_of, is_among, is_live, line, passed}
-use Rattle.fork_model.specs.States.{Block, ForkState, IsForkState, block_at, changes_at, head_moved, state_at, tree_of_blocks}
+use Rattle.fork_model.specs.Trees.{BlockTree, Header, block_of, descends, dropped, is_among, line, passed}
+use Rattle.fork_model.specs.States.{Block, ForkState, IsForkState, block_at, head_moved, tree_of_blocks}
 use Rattle.fork_model.proofs.Ids.{found-filter, same-itself, same_from}
 use Rattle.fork_model.proofs.Descent.{descends-both, descends-itself}
 use Rattle.fork_model.proofs.Lines.{id_key}
@@ -16,7 +15,7 @@ use Rattle.fork_model.proofs.States.{block_of-at}
 use Rattle.fork_model.proofs.Told.{found_live, states-kept}
 use Rattle.fork_tree.specs.Answers.{IsPlan}
 use Rattle.fork_tree.specs.declared.ids.Move.{Move}
-use Rattle.flat_store.specs.Flats.{Deltas, FlatState, IsFlatOf, kept_of, laid_over, left_of, map_of}
+use Rattle.flat_store.specs.Flats.{FlatState, IsFlatOf, laid_over, left_of}
 use Rattle.flat_store.proofs.Follows.{state-told}
 
 -- A block whose changes are kept is neither dropped nor on the line to the new head (h: it was the head; p: it is passed); d: it descends from the new head; e: it is the new head.

@@ -1,12 +1,12 @@
 -- Changes that are gathered from several blocks, the newest first.
-use Rattle.std.proofs.Common.{◌≡◌, ◌≢◌, ℕ, ◌+◌, ◌<◌, ◌≤◌, Bool, true, false, cond, List, [], ◌∷◌, length, map, drop, get_or, Option, None, Some, IsSome, is_some, Bor, Result, Ok, Err, IfOk, OnOk, refl, sym, ap, subst, ◌∙◌}
+use Rattle.std.proofs.Common.{◌≡◌, ℕ, ◌+◌, ◌<◌, ◌≤◌, Bool, true, false, cond, List, length, map, drop, get_or, Option, None, Some, is_some, Bor, Result, Ok, Err, IfOk, OnOk, refl, sym, ap, ◌∙◌}
 use Rattle.std.specs.Option.{option_copied, option_or}
 use Rattle.std.specs.Str.{bytes_eq}
 use Rattle.std.specs.List.{AllByRecursion}
 use Rattle.std.specs.Cmp.Lexicographic.{nat_list_cmp_total, texts_ties}
 use Rattle.std.proofs.lemmas.Map.Lookups.{exact_bytes}
 use Rattle.std.proofs.lemmas.List.{at_drop_more, drop_all}
-use Rattle.std.specs.FinMap.{empty, entries, find, get, insert, get-entries, get-insert, same_map}
+use Rattle.std.specs.FinMap.{entries, find, get, insert, get-entries, get-insert, same_map}
 use Rattle.trie_model.specs.State.{State}
 use Rattle.batch_model.specs.Changes.{Change, Changes, IsChange, after, decided}
 use Rattle.batch_model.proofs.Laying.{all_of_get, get-after, get_of_all}

@@ -1,14 +1,14 @@
 -- The pairs that a map has with changes laid over: those of unchanged keys, and what changed keys become.
-use Rattle.std.proofs.Common.{◌≡◌, ◌≢◌, ℕ, ◌≤◌, ◌<◌, Bool, true, false, cond, List, [], ◌∷◌, length, Option, None, Some, is_some, not, IsSome, Vec, Result, Ok, Err, refl, sym, ap, subst, ◌∙◌, arith}
+use Rattle.std.proofs.Common.{◌≡◌, ℕ, ◌≤◌, ◌<◌, Bool, true, false, cond, List, ◌∷◌, length, Option, None, Some, is_some, not, IsSome, Vec, Result, Ok, Err, refl, sym, ap, subst, ◌∙◌, arith}
 use Rattle.std.specs.Result.{IsErrAnd}
 use Rattle.std.specs.List.{AllByRecursion, IsDistinct}
 use Rattle.std.specs.Map.{keys_of}
 use Rattle.std.specs.Cmp.Lexicographic.{nat_list_cmp_total}
 use Rattle.std.proofs.lemmas.Map.Lookups.{exact_bytes}
-use Rattle.std.specs.FinMap.{empty, entries, get, insert, get-empty, get-retain_keys, same_map, slice_cmp-IsAntisymmetric, nat_cmp-IsAntisymmetric}
+use Rattle.std.specs.FinMap.{empty, entries, get, insert, get-empty, get-retain_keys, same_map}
 use Rattle.std.specs.declared.alloc.Global.{Global}
 use Rattle.trie_model.specs.State.{State, IsPair}
-use Rattle.batch_model.specs.Changes.{Change, Changes, IsChange, after, decided}
+use Rattle.batch_model.specs.Changes.{IsChange, after, decided}
 use Rattle.batch_model.proofs.Laying.{get-after, get_of_all, same_key}
 use Rattle.base_core.proofs.ByteMaps.{order}
 use Rattle.base_core.proofs.HashTables.{each-found}

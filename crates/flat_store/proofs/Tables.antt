@@ -1,11 +1,11 @@
 -- The hash tables against the maps that they are seen as.
-use Rattle.std.proofs.Common.{◌≡◌, ℕ, ◌≤◌, Bool, true, false, cond, List, [], ◌∷◌, map, length, Option, None, Some, is_some, Vec, refl, sym, ap, subst, ◌∙◌}
+use Rattle.std.proofs.Common.{◌≡◌, ℕ, Bool, true, false, cond, List, [], map, length, Option, None, Some, Vec, refl, sym, ap, subst, ◌∙◌}
 use Rattle.std.specs.Prelude.{nat_eq}
 use Rattle.std.specs.Option.{option_map}
 use Rattle.std.specs.Map.{lookup, KeepsOthers, keys_of}
 use Rattle.std.specs.List.{AllByRecursion, IsDistinct}
-use Rattle.std.specs.Cmp.Lexicographic.{pointwise, nat_list_cmp_total}
-use Rattle.std.specs.FinMap.{FinMap, empty, get, from_entries, insert, remove, len, entries, len-entries, get-insert}
+use Rattle.std.specs.Cmp.Lexicographic.{pointwise}
+use Rattle.std.specs.FinMap.{FinMap, empty, get, from_entries, insert, remove, entries, len-entries}
 use Rattle.std.specs.declared.alloc.Global.{Global}
 use Rattle.trie_model.specs.State.{State, IsPair}
 use Rattle.batch_model.specs.Changes.{Change, Changes, IsChange, after_change}
@@ -14,7 +14,6 @@ use Rattle.base_core.specs.ChangeMaps.{ChangeMap}
 use Rattle.base_core.specs.declared.hash.Digest.{Digest}
 use Rattle.base_core.proofs.ByteMaps.{order, is_same}
 use Rattle.base_core.proofs.HashTables.{alike, found, get-seen, len-seen, seen-none, seen-put, seen-same, seen-taken, updated}
-use Rattle.flat_store.specs.Flats.{Deltas}
 use Rattle.flat_store.specs.Kept.{Batches, ByKey, deltas_of, held}
 
 option_map-itself : {X : Type 0} (o : Option X) → option_map (λ x. x) o ≡ o

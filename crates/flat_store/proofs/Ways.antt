@@ -1,19 +1,18 @@
 -- The way from a live block to the head, and what is met on it.
-use Rattle.std.proofs.Common.{◌≡◌, ◌≢◌, ℕ, ◌+◌, ◌<◌, Bool, true, false, cond, List, [], ◌∷◌, ◌++◌, length, Option, None, Some, is_some, refl, sym, ap, subst, ◌∙◌, arith}
-use Rattle.std.specs.Option.{option_map, unwrap_or}
+use Rattle.std.proofs.Common.{◌≡◌, ℕ, ◌+◌, ◌<◌, Bool, true, false, cond, List, [], ◌∷◌, ◌++◌, length, Option, None, Some, is_some, refl, sym, ap, ◌∙◌, arith}
+use Rattle.std.specs.Option.{option_map}
 use Rattle.std.specs.Str.{bytes_eq}
 use Rattle.std.specs.List.{AllByRecursion}
 use Rattle.std.proofs.lemmas.List.{length-append}
-use Rattle.std.specs.FinMap.{entries, get}
+use Rattle.std.specs.FinMap.{entries}
 use Rattle.trie_model.specs.State.{State}
-use Rattle.batch_model.specs.Changes.{Changes, IsChange, after, decided}
-use Rattle.batch_model.proofs.Laying.{get-after}
+use Rattle.batch_model.specs.Changes.{Changes, IsChange, after}
 use Rattle.fork_model.specs.Trees.{BlockTree, Header, IsTree, block_of, is_live, line, passed, prev_of}
 use Rattle.fork_model.proofs.Ids.{same_from}
-use Rattle.fork_model.proofs.Lines.{PrevOf, StandsIn, stands_in}
+use Rattle.fork_model.proofs.Lines.{StandsIn, stands_in}
 use Rattle.fork_model.proofs.Passed.{passed-head, passed-over}
-use Rattle.fork_model.proofs.Told.{HasPrev, found_live, has_prev, line-over}
-use Rattle.flat_store.specs.Flats.{Deltas, FlatState, delta_of, laid_over, map_of}
+use Rattle.fork_model.proofs.Told.{HasPrev, has_prev, line-over}
+use Rattle.flat_store.specs.Flats.{Deltas, delta_of, laid_over}
 
 -- ---- one block further
 

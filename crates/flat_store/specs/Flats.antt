@@ -1,5 +1,5 @@
 -- What is kept of the live blocks: the map of the head, and the changes of each other block (this project's own, after nearcore's flat storage).
-use Rattle.std.specs.Prelude.{◌≡◌, ℕ, List, [], ◌∷◌, ◌++◌, map, sum_by, length, Option, None, Some, is_some, if◌then◌else◌, ◌||◌, refl}
+use Rattle.std.specs.Prelude.{◌≡◌, ℕ, List, [], ◌∷◌, sum_by, length, Option, None, Some, is_some, if◌then◌else◌, refl}
 use Rattle.std.specs.Option.{unwrap_or}
 use Rattle.std.specs.Ordering.{nat_cmp}
 use Rattle.std.specs.Cmp.Lexicographic.{slice_cmp}

@@ -11,12 +11,11 @@ use Rattle.script_io.specs.Meanings.{event}
 use Rattle.script_io.specs.Streams.{AppendsPrefix}
 use Rattle.shard_cmd.specs.declared.events.Stop.{Stop}
 use Rattle.shard_cmd.specs.declared.events.Stop.TheVariants as stop
-use Rattle.shard_cmd.specs.declared.blocks.Blocks.{Blocks}
 use Rattle.shard_cmd.specs.declared.history.Opened.{Opened}
 use Rattle.shard_cmd.specs.declared.history.Halt.{Halt}
 use Rattle.shard_cmd.specs.declared.history.Halt.TheVariants as halt
 use Rattle.shard_cmd.specs.Events.{NextIs, IsNext}
-use Rattle.shard_cmd.specs.Histories.{history_of, Steps}
+use Rattle.shard_cmd.specs.Histories.{history_of, Halts}
 use Rattle.shard_cmd.specs.Sending.{Sends, Reaches, EndsHistory, stopped_as, halted_as, whole_or_open}
 use Rattle.shard_cmd.proofs.Scripts.{IsUpTo, ends_whole, ends_unread, ends_asked, ends_early}
 use Rattle.shard_cmd.proofs.Sending.{Sends-stops, reaches, reaches_some, fails_behind}
@@ -48,8 +47,8 @@ module _ (limits : RunLimits) (left after new_after : Option (List ℕ)) (replie
   ends_at_stop kept number stop.NoMemory n h s = ends_by_failure kept s
 
   -- the script ends at an event
-  pub ends_at_event : (held kept : List ℕ) (number : ℕ) (why : Halt) (found : Event) (blocks : Blocks) → number ≡ old.lines + 1 → IsNext old new → IfSome after (λ left. NextIs (old.pending ++ left) old new new_after (Ok (Some found)))
-      → Steps limits forks opened (event found) blocks held kept (Err why) → Sends before now replies held → IfSome left (λ input. EndsHistory (apply_output limits input) before now kept (halted_as why number))
-  ends_at_event held kept number halt.Syntax found blocks n next h e s =
+  pub ends_at_event : (held kept : List ℕ) (number : ℕ) (why : Halt) (found : Event) → number ≡ old.lines + 1 → IsNext old new → IfSome after (λ left. NextIs (old.pending ++ left) old new new_after (Ok (Some found)))
+      → Halts limits forks opened (event found) held kept why → Sends before now replies held → IfSome left (λ input. EndsHistory (apply_output limits input) before now kept (halted_as why number))
+  ends_at_event held kept number halt.Syntax found n next h e s =
       rw (n, e.unreplied) (reaches (apply_output limits) before now replies left (syntax_at (old.lines + 1)) held (ends_asked (apply_script limits) left after new_after replies old new (history_of forks opened) found _ next h (e.step (old.lines + 1)) u) s)
-  ends_at_event held kept number halt.NoMemory found blocks n next h e s = ends_by_failure held s
+  ends_at_event held kept number halt.NoMemory found n next h e s = ends_by_failure held s

@@ -37,11 +37,15 @@ pub record EndsAt (limits : RunLimits) (forks : ForkState) (opened : Option Open
   pub step : (number : ℕ) → history_step limits number (history_of forks opened) asked ≡ ends (syntax_at number)
   pub unreplied : after ≡ before
 
+-- why a script does not go on behind a line
+abbrev pub Halts : RunLimits → ForkState → Option Opened → lines.Event → (before after : List ℕ) → Halt → Type 0
+Halts limits forks opened asked before after halt.Syntax = EndsAt limits forks opened asked before after
+Halts limits forks opened asked before after halt.NoMemory = ⊤
+
 -- what a line makes of a history
 abbrev pub Steps : RunLimits → ForkState → Option Opened → lines.Event → (new : Blocks) (before after : List ℕ) → Result (Option Opened) Halt → Type 0
 Steps limits forks opened asked new before after (Ok next) = GoesOn limits forks opened asked new before after next
-Steps limits forks opened asked new before after (Err halt.Syntax) = EndsAt limits forks opened asked before after
-Steps limits forks opened asked new before after (Err halt.NoMemory) = ⊤
+Steps limits forks opened asked new before after (Err why) = Halts limits forks opened asked before after why
 
 -- what comes of a line between two blocks, or of the last one of a block, once its reply was put
 abbrev pub replied_as : Result Unit Fault → Result (Option Opened) Halt

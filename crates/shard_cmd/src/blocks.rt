@@ -81,7 +81,7 @@ impl Blocks {
         requires live { is_live self.now.forks.tree prev.now.0 ≡ true }
         ensures { (limits : RunLimits) (forks : ForkState) → Keeps limits forks self.now → RootOver limits forks prev.now.0 changes.now.changes result }
     {
-        what_is_kept_follows_its_blocks(&self.flat);
+        what_is_kept_follows_its_blocks();
         match self
             .flat
             .pairs_over(alloc, &self.forks, prev, changes, self.pairs)
@@ -114,7 +114,7 @@ impl Blocks {
         requires flat_room { 1 ≤ self.old.flat.spare }
         ensures { (limits : RunLimits) (forks : ForkState) → Keeps limits forks self.old → FitsOver limits forks prev.0 changes.changes → Keeps limits (with_block forks (header_of id prev height) changes.changes) self.new }
     {
-        what_is_kept_follows_its_blocks(&self.flat);
+        what_is_kept_follows_its_blocks();
         self.forks.add(id, prev, height);
         self.flat.add(id, changes);
     }
@@ -124,7 +124,7 @@ impl Blocks {
         requires { AreKept self.old }
         ensures { (limits : RunLimits) (forks : ForkState) → Keeps limits forks self.old → Moves limits forks id.now.0 self.new result }
     {
-        what_is_kept_follows_its_blocks(&self.flat);
+        what_is_kept_follows_its_blocks();
         let plan = match self.forks.plan_move(alloc, id) {
             Ok(plan) => plan,
             Err(error) => return Err(error),
@@ -145,7 +145,7 @@ impl Blocks {
         requires { AreKept self.now }
         ensures { (limits : RunLimits) (forks : ForkState) → Keeps limits forks self.now → ReadsKey forks id.now.0 key.now result }
     {
-        what_is_kept_follows_its_blocks(&self.flat);
+        what_is_kept_follows_its_blocks();
         self.flat.get(&self.forks, id, key)
     }
 }

@@ -1,5 +1,4 @@
-use Rattle.std.proofs.Common.{map, ap, ◌∙◌}
-use Rattle.std.specs.Option.{option_copied}
+use Rattle.std.proofs.Common.{ap, ◌∙◌}
 use Rattle.flat_store.specs.Kept.{changes_of}
 use Rattle.flat_store.proofs.Noting.{joined-after, joined-changes, joined-rows, on_ok, shown}
 use Rattle.flat_store.proofs.maps.note.Goals as goal

@@ -1,4 +1,4 @@
-use Rattle.flat_store.proofs.Noting.{noted-all, noted-step}
+use Rattle.flat_store.proofs.Noting.{noted-step}
 use Rattle.flat_store.proofs.maps.note_rows.Goals as goal
 
 pub loop-row-preserved : goal.loop-row-preserved

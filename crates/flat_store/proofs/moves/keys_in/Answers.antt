@@ -1,6 +1,5 @@
-use Rattle.std.proofs.Common.{◌≡◌, ◌+◌, ◌*◌, ◌≤◌, ◌<◌, arith}
-use Rattle.batch_model.specs.Changes.{most_changes}
-use Rattle.flat_store.specs.Kept.{deltas_of, keys_along}
+use Rattle.std.proofs.Common.{arith}
+use Rattle.flat_store.specs.Kept.{deltas_of}
 use Rattle.flat_store.proofs.Passing.{keys-all, keys-more}
 use Rattle.flat_store.proofs.moves.keys_in.Goals as goal
 

@@ -1,9 +1,7 @@
-use Rattle.std.proofs.Common.{◌≡◌, ℕ, ◌+◌, ◌≤◌, length, sym, ap, subst, ◌∙◌, arith}
-use Rattle.std.specs.FinMap.{entries}
+use Rattle.std.proofs.Common.{ℕ, ◌+◌, ◌≤◌, sym, ap, subst, ◌∙◌}
 use Rattle.std.specs.HashMap.{spare}
-use Rattle.batch_model.specs.Changes.{Changes, after}
-use Rattle.flat_store.specs.Flats.{delta_of}
-use Rattle.flat_store.specs.Kept.{deltas_of, head_of}
+use Rattle.batch_model.specs.Changes.{after}
+use Rattle.flat_store.specs.Kept.{head_of}
 use Rattle.flat_store.proofs.Tables.{deltas-taken}
 use Rattle.flat_store.proofs.Passing.{after-empty, delta-found, delta-missing, keys-found}
 use Rattle.flat_store.proofs.moves.lay_block.Goals as goal

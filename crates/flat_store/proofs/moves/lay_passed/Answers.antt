@@ -1,4 +1,4 @@
-use Rattle.std.proofs.Common.{◌≤◌, arith}
+use Rattle.std.proofs.Common.{arith}
 use Rattle.flat_store.proofs.Passing.{passing-end, passing-room, passing-start, passing-step}
 use Rattle.flat_store.proofs.moves.lay_passed.Goals as goal
 

@@ -41,7 +41,7 @@ returns-in-Err-step-clause-end g c =
     let now = c.loop-event.invariant in
     rw c.halted.ensures
     (ends_at_event (run_limits c.args.limits.now) (g.S.Source.left c.args.source.now) (g.S.Source.left c.loop-event.source) (g.S.Source.left c.next_event.new.source) now.replied c.loop-event.lines c.next_event.new.lines now.forks c.loop-event.opened now.up_to
-    (g.K.Sink.written c.args.sink.now) (g.K.Sink.written c.loop-event.sink) _ _ _ c.in-Err-step.halt c.in-Ok-Some.event c.step.new.blocks (c.number.ensures ∙ c.next_event.ensures.number) (rw c.in-Ok-Some.field-0-is at c.in-Ok-Some.ensures.more) (rw c.in-Ok-Some.field-0-is at c.in-Ok-Some.ensures.next)
+    (g.K.Sink.written c.args.sink.now) (g.K.Sink.written c.loop-event.sink) _ _ _ c.in-Err-step.halt c.in-Ok-Some.event (c.number.ensures ∙ c.next_event.ensures.number) (rw c.in-Ok-Some.field-0-is at c.in-Ok-Some.ensures.more) (rw c.in-Ok-Some.field-0-is at c.in-Ok-Some.ensures.next)
     (c.in-Err-step.ensures now.forks now.keeps now.is_opened) now.sends)
 
 pub returns-in-Ok-None-clause-end : goal.returns-in-Ok-None-clause-end

@@ -1,10 +1,6 @@
-use Rattle.std.proofs.Common.{◌≡◌, ◌≤◌, ◌+◌, ◌*◌, ℕ, List, length, sym, ap, subst, ◌∙◌, arith}
-use Rattle.std.specs.Map.{values_of}
-use Rattle.std.specs.FinMap.{entries}
-use Rattle.batch_model.specs.Changes.{most_changes}
+use Rattle.std.proofs.Common.{◌≡◌, List, length, sym, ap, ◌∙◌, arith}
 use Rattle.base_core.specs.ChangeMaps.{ChangeMap}
 use Rattle.flat_store.specs.Flats.{FlatState, keys_changed}
-use Rattle.flat_store.specs.Kept.{deltas_of}
 use Rattle.flat_store.proofs.Counts.{keys-kept, keys-listed, listed, listed-end, listed-more}
 use Rattle.flat_store.proofs.flat.Flat.entries.Goals as goal
 

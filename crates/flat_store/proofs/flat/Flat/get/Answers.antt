@@ -1,11 +1,10 @@
-use Rattle.std.proofs.Common.{◌≡◌, Some, None, Option, List, ℕ, sym, ap, ◌∙◌}
-use Rattle.std.specs.Option.{option_copied, option_map}
+use Rattle.std.proofs.Common.{◌≡◌, Some, None, sym, ap, ◌∙◌}
+use Rattle.std.specs.Option.{option_copied}
 use Rattle.std.specs.FinMap.{get}
 use Rattle.trie_model.specs.State.{State}
 use Rattle.flat_store.specs.Flats.{FlatState}
-use Rattle.flat_store.specs.Kept.{head_of}
 use Rattle.flat_store.proofs.Follows.{state-has}
-use Rattle.flat_store.proofs.Lookups.{way-end, way-found, way-start, way-step}
+use Rattle.flat_store.proofs.Lookups.{way-end, way-found, way-step}
 use Rattle.flat_store.proofs.Tables.{get-map}
 use Rattle.flat_store.proofs.Ways.{shorter}
 use Rattle.flat_store.proofs.flat.Flat.get.Goals as goal

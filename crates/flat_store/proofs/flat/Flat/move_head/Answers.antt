@@ -1,10 +1,10 @@
-use Rattle.std.proofs.Common.{◌≡◌, ◌≤◌, ℕ, List, length, sym, ap, subst, ◌∙◌, arith}
+use Rattle.std.proofs.Common.{length, sym, ap, subst, ◌∙◌, arith}
 use Rattle.std.specs.List.{AllByRecursion, IsDistinct}
 use Rattle.std.specs.Str.{bytes_eq}
 use Rattle.std.specs.FinMap.{entries, get}
 use Rattle.trie_model.specs.State.{State, IsPair}
 use Rattle.flat_store.specs.Flats.{FlatState, HasSameBlocks, laid_over, left_of}
-use Rattle.flat_store.specs.Kept.{deltas_of, head_of}
+use Rattle.flat_store.specs.Kept.{deltas_of}
 use Rattle.flat_store.proofs.Moved.{flat-moved}
 use Rattle.flat_store.proofs.Planned.{passed-apart, passed-few}
 use Rattle.flat_store.proofs.Tables.{map-alike}

@@ -1,4 +1,4 @@
-use Rattle.std.proofs.Common.{◌≡◌, ◌≤◌, ◌<◌, length, Some, Err, sym, ap, subst, ◌∙◌, arith}
+use Rattle.std.proofs.Common.{◌≡◌, ◌<◌, length, Some, sym, ap, subst, ◌∙◌}
 use Rattle.std.specs.Option.{option_map, IsSomeAnd}
 use Rattle.std.specs.FinMap.{entries}
 use Rattle.trie_model.specs.State.{State}
