@@ -20,10 +20,6 @@ pub refused_reads : {X Y Z : Type 0} (view : X → Y) (result : Result X ProofEr
     → IsErrAnd result (λ given. given ≡ error) → ((fault : RecordingFault) → part ≡ Err fault → read old ≡ Err fault) → IsRefused error part → Reads view result old new read
 refused_reads view result error old new read part is alike h = passed_on (λ r. Reads view r old new read) result error is (refused_alike error part (read old) alike h)
 
--- want of memory that a `?` passed on
-pub short_reads : {X Y : Type 0} (view : X → Y) (result : Result X ProofError) (old new : Cursor) (read : Cursor → ReadHead Y) → IsErrAnd result (λ given. given ≡ NoMemory) → Reads view result old new read
-short_reads view result old new read is = passed_on (λ r. Reads view r old new read) result NoMemory is tt
-
 -- what is read behind a first part is what is read in all
 pub reads_onward : {X Y : Type 0} (view : X → Y) (result : Result X ProofError) (c d new : Cursor) (whole part : Cursor → ReadHead Y) → whole c ≡ part d → Reads view result d new part → Reads view result c new whole
 reads_onward view (Ok x) c d new whole part e h = e ∙ h

@@ -1,11 +1,11 @@
 -- Reading so many keys, one after the other.
-use Rattle.std.proofs.Common.{◌≡◌, ℕ, suc, ◌+◌, ◌-◌, ◌<◌, List, [], ◌∷◌, ◌++◌, length, Ok, Err, refl, sym, ap, subst, ◌∙◌, arith, length-append}
+use Rattle.std.proofs.Common.{◌≡◌, ℕ, suc, ◌+◌, ◌-◌, ◌<◌, List, [], ◌∷◌, ◌++◌, length, Ok, Err, refl, ap, ◌∙◌, arith, length-append}
 use Rattle.std.proofs.lemmas.List.{append-nil}
 use Rattle.std.specs.List.{AllByRecursion}
 use Rattle.byte_model.specs.Nibbles.{longest_key}
 use Rattle.byte_model.proofs.Lists.{AllByRecursion-append}
 use Rattle.record_model.specs.Fields.{Cursor}
-use Rattle.text_store.proofs.Listing.{joined, joined-nothing, joined-one}
+use Rattle.text_store.proofs.Listing.{joined, joined-one}
 use Rattle.partial_model.specs.Recording.{RecordingFault, IsKey, most_reads, count_within, vector_within, keys_at, reads_at}
 
 -- after n keys of so many, the reading is told by these keys and the reading of those that are left
@@ -13,12 +13,6 @@ pub record ReadsKeys (start : Cursor) (count : ℕ) (keys : List (List ℕ)) (n 
   pub told : keys_at count start ≡ joined keys (keys_at (count - n) now)
   pub long : length keys ≡ n
   pub each : AllByRecursion IsKey keys
-
-pub ReadsKeys-init : (start : Cursor) (count : ℕ) (keys : List (List ℕ)) → keys ≡ [] → ReadsKeys start count keys 0 start
-ReadsKeys-init start count keys none =
-    let whole : count ≡ count - 0 = omega arith in
-    subst (λ (ks : List (List ℕ)). ReadsKeys start count ks 0 start) (sym none)
-    (record { told = ap (λ m. keys_at m start) whole ∙ sym (joined-nothing (keys_at (count - 0) start)); long = refl; each = tt })
 
 one_more : (n : ℕ) (now next : Cursor) (key : List ℕ) (done : List (List ℕ)) → vector_within longest_key now ≡ Ok (key, next) → joined done (keys_at (suc n) now) ≡ joined (done ++ key ∷ []) (keys_at n next)
 unfolding keys_at

@@ -1,5 +1,4 @@
 pub mod Answers
-pub mod Operations
 pub mod Keys
 pub mod Batches
 pub mod Changes

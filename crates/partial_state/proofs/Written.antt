@@ -12,19 +12,12 @@ use Rattle.byte_model.specs.Node.{longest_value}
 use Rattle.batch_model.specs.Changes.{Change, IsChange}
 use Rattle.byte_model.proofs.Lists.{AllByRecursion-weaker}
 use Rattle.partial_model.specs.Partial.{IsPartial, spelled_texts, spelled_partial}
-use Rattle.partial_model.specs.Recording.{Recording, IsKey, spelled_change, spelled_changes, spelled_recording}
-use Rattle.partial_state.specs.Operations.{AreReads}
+use Rattle.partial_model.specs.Recording.{Recording, spelled_change, spelled_changes, spelled_recording}
 
 -- what was written, and then the texts that are left, are the whole
 pub record WritesTexts (whole : List ℕ) (texts : List (List ℕ)) (i : ℕ) (written : List ℕ) : Type 0 where
   pub spells : written ++ spelled_texts (drop i texts) ≡ whole
   pub short : AllByRecursion (λ t. length t < 2 ^ 32) (drop i texts)
-
-pub writes-reads : (reads : List (List ℕ)) (start written : List ℕ) → AreReads reads → written ≡ start ++ borsh_u32 (length reads) → WritesTexts (start ++ (borsh_u32 (length reads) ++ spelled_texts reads)) reads 0 written
-writes-reads reads start written h is = record {
-  spells = ap (λ (w : List ℕ). w ++ spelled_texts reads) is ∙ append_assoc start (borsh_u32 (length reads)) (spelled_texts reads);
-  short = AllByRecursion-weaker IsKey (λ t. length t < 2 ^ 32) (λ t k. omega (arith, k.1)) reads h.each;
-}
 
 pub writes-state : (texts : List (List ℕ)) (start written : List ℕ) → IsPartial texts → written ≡ start ++ borsh_u8 0 ++ borsh_u32 (length texts) → WritesTexts (start ++ spelled_partial texts) texts 0 written
 unfolding spelled_partial
