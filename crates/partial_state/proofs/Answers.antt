@@ -2,7 +2,7 @@
 use Rattle.std.proofs.Common.{◌≡◌, Result, Ok, Err, IsErrAnd, ◌∙◌}
 use Rattle.partial_model.specs.Recording.{RecordingFault, ReadHead}
 use Rattle.record_model.specs.Fields.{Cursor}
-use Rattle.text_store.proofs.Listing.{passed_on}
+use Rattle.base_core.proofs.PassedOn.{passed_on}
 use Rattle.partial_state.specs.declared.proof_error.ProofError.{ProofError}
 use Rattle.partial_state.specs.declared.proof_error.ProofError.TheVariants.{Frame, Head, Order, Clash, NoMemory}
 use Rattle.partial_state.specs.Recordings.{IsRefused, Reads}

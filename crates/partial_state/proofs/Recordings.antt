@@ -17,7 +17,7 @@ use Rattle.text_store.specs.declared.errors.PartialError.{PartialError}
 use Rattle.text_store.specs.declared.errors.PartialError.TheVariants as errors
 use Rattle.text_store.specs.PartialStates as texts
 use Rattle.text_store.proofs.Answering.{end_fault, end_reached}
-use Rattle.text_store.proofs.Listing.{passed_on}
+use Rattle.base_core.proofs.PassedOn.{passed_on}
 use Rattle.partial_state.specs.declared.proof.Proof.{Proof}
 use Rattle.partial_state.specs.declared.proof_error.ProofError.{ProofError}
 use Rattle.partial_state.specs.Operations.{AreReads}
