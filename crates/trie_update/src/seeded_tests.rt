@@ -1,6 +1,6 @@
 use super::*;
 use crate::tests::{Kept, delete, set};
-use base_core::{Changes, Digest, Pairs, Text};
+use base_core::{Changes, Pairs, Text};
 use std::alloc::{AllocError, Global};
 use std::process::Abort;
 use std::test::Fail;

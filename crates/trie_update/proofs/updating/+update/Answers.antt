@@ -29,7 +29,6 @@ use Rattle.trie_update.specs.Adds.{Adds}
 use Rattle.trie_update.specs.Merges.{CanSettle, MergedStands, lone_named, seen_kids}
 use Rattle.trie_update.specs.Subs.{kid_at, top_of_sub}
 use Rattle.trie_update.proofs.BranchCalls.{branch-carries, branch-keeps, branch-placed, branch-places, branch-settles, branch-stopped, small-mapped}
-use Rattle.trie_update.specs.declared.old.Old.TheVariants as old
 use Rattle.trie_update.proofs.Digests.{copy-old, extension-old, leaf-old, lose-named, lose-room, old-carries, old-keeps, old-placed, opened-short, opens-first, value-small, visited-carries, visited-children, visited-keeps, visited-placed}
 use Rattle.trie_update.proofs.SeenVisits.{SeesBranch, sees-visited}
 use Rattle.trie_update.proofs.updating.+update.Goals as goal
