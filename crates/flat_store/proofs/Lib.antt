@@ -24,3 +24,5 @@ pub mod Kept
 pub mod Planned
 -- how many keys are changed
 pub mod Counts
+-- a tree and what is kept of its blocks, changed together
+pub mod Together

@@ -10,7 +10,7 @@ use Rattle.std.specs.Coded.{Coded, code_by, coded×, coded_ℕ, coded_list, code
 use Rattle.trie_model.specs.State.{State}
 use Rattle.batch_model.specs.Changes.{Changes, after}
 use Rattle.fork_model.specs.Trees.{BlockTree, is_among, passed, prev_of}
-use Rattle.fork_model.specs.States.{ForkState, changes_at, state_at}
+use Rattle.fork_model.specs.States.{ForkState, IsForkState, changes_at, state_at, tree_of_blocks}
 
 -- the changes of blocks, by their ids
 abbrev pub Deltas : Type 0
@@ -67,3 +67,10 @@ kept_of forks id = if bytes_eq id forks.head then None else changes_at forks id
 pub record IsFlatOf (forks : ForkState) (flat : FlatState) : Type 0 where
   pub head : state_at forks forks.head ≡ Some flat.head
   pub deltas : (id : List ℕ) → get flat.deltas id ≡ kept_of forks id
+
+-- a tree and what is kept are of the same live blocks with their states
+pub record AreOfOne (tree : BlockTree) (flat : FlatState) : Type 0 where
+  pub blocks : ForkState
+  pub well : IsForkState blocks
+  pub shape : tree_of_blocks blocks ≡ tree
+  pub kept : IsFlatOf blocks flat

@@ -11,3 +11,6 @@ mod moves;
 pub use errors::{PairsError, PairsOverError};
 pub use flat::Flat;
 pub use laws::what_is_kept_follows_its_blocks;
+
+#[cfg(test)]
+mod tests;
