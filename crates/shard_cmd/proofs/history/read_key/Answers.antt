@@ -12,7 +12,7 @@ pub returns-in-Ok-None : goal.returns-in-Ok-None
 returns-in-Ok-None c = λ limits forks keeps.
     rw c.replied-in-Ok-None.ensures (key_is_read limits forks c.args.id.now.0 c.args.key.now c.args.blocks.now _ _ None c.put.result (rw c.in-Ok-None.field-0-is at (c.in-Ok-None.ensures limits forks keeps)) keeps (appended c.args.replies.now.bytes _ (line_of (codes "flat none")) c.put.result c.put.ensures.written))
 
-pub returns-in-Err-NotLive : goal.returns-in-Err-NotLive
-returns-in-Err-NotLive c = λ limits forks keeps.
-    rw c.replied-in-Err-NotLive.ensures (key_not_read limits forks c.args.id.now.0 c.args.key.now c.args.blocks.now _ _ c.put-in-Err-NotLive.result (rw c.in-Err-NotLive.field-0-is at (c.in-Err-NotLive.ensures limits forks keeps)) keeps
-    (appended c.args.replies.now.bytes _ (line_of (codes "flat refused not-live")) c.put-in-Err-NotLive.result c.put-in-Err-NotLive.ensures.written))
+pub returns-in-Err : goal.returns-in-Err
+returns-in-Err c = λ limits forks keeps.
+    rw c.replied-in-Err.ensures (key_not_read limits forks c.args.id.now.0 c.args.key.now c.args.blocks.now _ _ c.put-in-Err.result (c.in-Err.ensures limits forks keeps) keeps
+    (appended c.args.replies.now.bytes _ (line_of (codes "flat refused not-live")) c.put-in-Err.result c.put-in-Err.ensures.written))
