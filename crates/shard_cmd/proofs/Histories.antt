@@ -1,12 +1,11 @@
 -- What lines make of a history, and the replies to them.
-use Rattle.std.proofs.Common.{◌≡◌, ℕ, Bool, true, false, List, [], ◌++◌, length, append_assoc, Option, None, Some, Result, Ok, Err, IfOk, IfSome, OnOk, refl, sym, ap, subst, ◌∙◌, append-nil}
+use Rattle.std.proofs.Common.{◌≡◌, ℕ, true, false, List, [], ◌++◌, append_assoc, Option, None, Some, Result, Ok, Err, OnOk, refl, sym, ap, ◌∙◌, append-nil}
 use Rattle.std.specs.Prelude.{codes}
 use Rattle.std.specs.Option.{option_map, unwrap_or, IsSomeAnd}
 use Rattle.std.specs.Fmt.{decimal}
-use Rattle.std.specs.FinMap.{empty, get, insert}
+use Rattle.std.specs.FinMap.{empty, get}
 use Rattle.hex.specs.Hex.{encode_lower}
 use Rattle.script_model.specs.Lines as lines
-use Rattle.script_model.specs.Spellings.{hex_text}
 use Rattle.trie_model.specs.State.{State}
 use Rattle.trie_model.specs.Root as trie
 use Rattle.batch_model.specs.Changes.{Changes}
@@ -14,16 +13,15 @@ use Rattle.base_core.specs.ChangeMaps as maps
 use Rattle.base_core.specs.ChangeMaps.{ChangeMap}
 use Rattle.base_core.specs.declared.fault.Fault.{Fault}
 use Rattle.base_core.specs.declared.hash.Digest.{Digest}
-use Rattle.fork_model.specs.Trees.{Header, is_live, passed, dropped}
+use Rattle.fork_model.specs.Trees.{Header, is_live}
 use Rattle.fork_model.specs.States.{ForkState, tree_of_blocks, state_at, state_over, with_block, head_moved}
 use Rattle.output_model.specs.Ends.{RunLimits, line_of, syntax_at}
 use Rattle.output_model.specs.Scripts.{goes_on, ends}
-use Rattle.output_model.specs.Histories.{step_by, history_step, inside, changed, offered, block_refused, block_ok, block_not, root_over, head_step, head_ok, head_not, flat_line, read_text, value_text}
+use Rattle.output_model.specs.Histories.{step_by, history_step, inside, changed, offered, block_refused, root_over, read_text, value_text}
 use Rattle.script_io.specs.Streams.{Appends}
 use Rattle.shard_cmd.specs.declared.blocks.Blocks.{Blocks}
 use Rattle.shard_cmd.specs.declared.blocks.Moved.{Moved}
 use Rattle.shard_cmd.specs.declared.history.Opened.{Opened}
-use Rattle.shard_cmd.specs.declared.history.Halt.TheVariants as halt
 use Rattle.shard_cmd.specs.Blocks.{Keeps, header_of, IsAccepted, IsMoved}
 use Rattle.shard_cmd.specs.Histories.{open_of, history_of, IsOpened, GoesOn, EndsAt, Steps, replied_as}
 use Rattle.shard_cmd.proofs.Puts.{has_no_room}

@@ -1,8 +1,8 @@
 -- How reading a history ends, and how far its output was written then.
-use Rattle.std.proofs.Common.{◌≡◌, ℕ, ◌+◌, List, [], ◌++◌, Option, Some, None, Ok, Err, IfSome, refl, sym, ap, subst, ◌∙◌}
+use Rattle.std.proofs.Common.{◌≡◌, ℕ, ◌+◌, List, [], ◌++◌, Option, Some, None, Ok, Err, IfSome}
 use Rattle.output_model.specs.Ends.{Output, RunLimits, done, syntax_at}
 use Rattle.output_model.specs.Scripts.{behind}
-use Rattle.output_model.specs.Histories.{History, history_last}
+use Rattle.output_model.specs.Histories.{history_last}
 use Rattle.output_model.specs.Apply.{apply_script, apply_output, nothing_more}
 use Rattle.fork_model.specs.States.{ForkState}
 use Rattle.script_io.specs.declared.event.Event.{Event}
@@ -16,7 +16,7 @@ use Rattle.shard_cmd.specs.declared.history.Halt.{Halt}
 use Rattle.shard_cmd.specs.declared.history.Halt.TheVariants as halt
 use Rattle.shard_cmd.specs.Events.{NextIs, IsNext}
 use Rattle.shard_cmd.specs.Histories.{history_of, Halts}
-use Rattle.shard_cmd.specs.Sending.{Sends, Reaches, EndsHistory, stopped_as, halted_as, whole_or_open}
+use Rattle.shard_cmd.specs.Sending.{Sends, EndsHistory, stopped_as, halted_as, whole_or_open}
 use Rattle.shard_cmd.proofs.Scripts.{IsUpTo, ends_whole, ends_unread, ends_asked, ends_early}
 use Rattle.shard_cmd.proofs.Sending.{Sends-stops, reaches, reaches_some, fails_behind}
 

@@ -1,12 +1,12 @@
 -- How a run ends that has read a history, by what was written last.
-use Rattle.std.proofs.Common.{◌≡◌, ℕ, List, [], ◌∷◌, ◌++◌, Option, Some, None, IfSome, inl, inr, refl, sym, ap, subst, ◌∙◌, append_assoc, append-nil}
-use Rattle.output_model.specs.Ends.{Output, Ending, done}
+use Rattle.std.proofs.Common.{◌≡◌, ℕ, List, ◌++◌, Option, Some, None, IfSome, inl, inr, sym, ap, subst, ◌∙◌, append_assoc}
+use Rattle.output_model.specs.Ends.{Output, Ending}
 use Rattle.output_model.specs.Scripts.{behind}
 use Rattle.script_io.specs.Streams.{AppendsPrefix}
 use Rattle.shard_cmd.specs.declared.status.Status.{Status}
 use Rattle.shard_cmd.specs.declared.status.Status.TheVariants.{ReadFault}
 use Rattle.shard_cmd.specs.Ends.{EndsAs, ending_of, FinishesAs}
-use Rattle.shard_cmd.specs.Sending.{Sends, Reaches}
+use Rattle.shard_cmd.specs.Sending.{Reaches}
 use Rattle.shard_cmd.proofs.Sending.{Sends-fails, Sends-stops, prefix-behind}
 
 -- behind bytes that were written before

@@ -1,6 +1,6 @@
 -- The live blocks as they are held, as blocks are accepted and the head moves.
-use Rattle.std.proofs.Common.{◌≡◌, ℕ, ◌+◌, ◌<◌, ◌≤◌, Bool, true, false, cond, List, [], ◌∷◌, ◌++◌, length, map, Option, Some, None, IfSome, refl, sym, ap, subst, ◌∙◌, arith, nat_cmp}
-use Rattle.std.specs.Option.{option_map, IsSomeAnd}
+use Rattle.std.proofs.Common.{◌≡◌, ℕ, ◌+◌, ◌<◌, ◌≤◌, Bool, true, false, cond, List, [], ◌∷◌, ◌++◌, length, Option, Some, None, IfSome, refl, sym, ap, subst, ◌∙◌, arith, nat_cmp}
+use Rattle.std.specs.Option.{option_map}
 use Rattle.std.specs.Cmp.Lexicographic.{slice_cmp}
 use Rattle.std.specs.Str.{bytes_eq}
 use Rattle.std.specs.FinMap.{get, len, empty, entries, len-empty}
@@ -9,14 +9,13 @@ use Rattle.trie_model.specs.State.{State}
 use Rattle.batch_model.specs.Changes.{Changes}
 use Rattle.base_core.specs.Bounds.{AreLimits, most_blocks}
 use Rattle.base_core.specs.declared.limits.Limits.{Limits}
-use Rattle.fork_model.specs.Trees.{Header, BlockTree, IsTree, block_fault, block_of, is_live, grown, moved, after_block, grown_unless, descends, start}
+use Rattle.fork_model.specs.Trees.{Header, block_fault, is_live, grown, moved, after_block, grown_unless, descends, start}
 use Rattle.fork_model.specs.States.{Block, ForkState, IsForkState, first_fork, tree_of_blocks, block_at, state_at, changes_at, state_over, behind_blocks, with_block, with_block_unless, after_offer, head_moved, after_head}
 use Rattle.fork_model.proofs.Ids.{found, found-push_new, found-push_old}
-use Rattle.fork_model.proofs.Faults.{IsAccepted, accepted}
+use Rattle.fork_model.proofs.Faults.{accepted}
 use Rattle.fork_model.proofs.States.{block_key, block_of-at, tree-moved, tree-after_offer, first-is, after_offer-keeps}
 use Rattle.fork_model.proofs.Told.{states-move, states-kept}
-use Rattle.fork_tree.specs.Answers.{IsPlan}
-use Rattle.flat_store.specs.Flats.{FlatState, IsFlatOf, kept_of}
+use Rattle.flat_store.specs.Flats.{IsFlatOf, kept_of}
 use Rattle.output_model.specs.Ends.{RunLimits}
 use Rattle.shard_cmd.specs.declared.blocks.Blocks.{Blocks}
 use Rattle.shard_cmd.specs.Ends.{run_limits}

@@ -1,9 +1,9 @@
 -- The lines of a script of pairs, by what `root` makes of them.
-use Rattle.std.proofs.Common.{◌≡◌, ℕ, ◌+◌, Bool, true, false, List, [], ◌++◌, Option, Some, None, Result, Ok, Err, IfSome, IfOk, refl, sym, ap, ◌∙◌}
+use Rattle.std.proofs.Common.{◌≡◌, ℕ, ◌+◌, Bool, true, false, List, [], ◌++◌, Option, Some, None, Err, IfSome, IfOk, refl, sym, ap}
 use Rattle.std.specs.Prelude.{if◌then◌else◌}
 use Rattle.script_model.specs.Lines as lines
 use Rattle.trie_model.specs.State.{State}
-use Rattle.output_model.specs.Ends.{Output, RunLimits}
+use Rattle.output_model.specs.Ends.{RunLimits}
 use Rattle.output_model.specs.Scripts.{goes_on, ends}
 use Rattle.output_model.specs.Root.{root_step, root_script, root_output}
 use Rattle.base_core.specs.PairMaps.{PairMap}

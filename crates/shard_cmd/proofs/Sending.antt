@@ -1,5 +1,5 @@
 -- Replies that are gathered, and what was written of them.
-use Rattle.std.proofs.Common.{◌≡◌, ℕ, List, [], ◌++◌, Option, Some, None, IfSome, refl, sym, ap, subst, ◌∙◌, append_assoc, append-nil}
+use Rattle.std.proofs.Common.{◌≡◌, ℕ, List, [], ◌++◌, Option, Some, None, IfSome, sym, ap, subst, ◌∙◌, append_assoc, append-nil}
 use Rattle.output_model.specs.Ends.{Output}
 use Rattle.output_model.specs.Scripts.{behind}
 use Rattle.script_io.specs.Streams.{AppendsPrefix}

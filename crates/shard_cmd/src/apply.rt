@@ -1,5 +1,4 @@
 ghost use Rattle.std.specs.Prelude.{◌≡◌, ◌≢◌, [], Some, IfSome, OnErr, IfOk};
-ghost use Rattle.std.specs.Option.{};
 ghost use Rattle.base_core.specs.Bounds.{AreLimits};
 ghost use Rattle.base_core.specs.Faults.{IsCounted, faults_after};
 ghost use Rattle.output_model.specs.Apply.{apply_output};

@@ -1,4 +1,4 @@
-use Rattle.std.proofs.Common.{None, [], ◌++◌, ◌∙◌, refl}
+use Rattle.std.proofs.Common.{[], ◌++◌, ◌∙◌, refl}
 use Rattle.fork_model.specs.States.{first_fork}
 use Rattle.output_model.specs.Apply.{apply_script, apply_output}
 use Rattle.shard_cmd.specs.Ends.{run_limits}

@@ -1,7 +1,6 @@
 use Rattle.std.proofs.Common.{None, [], Err, arith, refl, ap, ◌∙◌}
 use Rattle.script_model.specs.Lines as lines
 use Rattle.base_core.specs.ChangeMaps.{ChangeMap, changed}
-use Rattle.shard_cmd.specs.declared.history.Opened.{Opened}
 use Rattle.shard_cmd.proofs.Histories.{changes_on, changes_off}
 use Rattle.shard_cmd.proofs.Puts.{put_answer, answer-ok, answer-full}
 use Rattle.shard_cmd.proofs.history.delete.Goals as goal

@@ -1,4 +1,3 @@
-use Rattle.std.proofs.Common.{None, Some, refl, ap}
 use Rattle.shard_cmd.specs.Ends.{run_limits}
 use Rattle.shard_cmd.proofs.history.step.Goals as goal
 

@@ -1,4 +1,4 @@
-use Rattle.std.proofs.Common.{None, Some, refl, ap}
+use Rattle.std.proofs.Common.{Some, refl, ap}
 use Rattle.script_io.specs.Meanings.{event}
 use Rattle.shard_cmd.proofs.Histories.{stays, misplaced}
 use Rattle.shard_cmd.proofs.Puts.{pair_of, deleted_key}

@@ -1,4 +1,4 @@
-use Rattle.std.proofs.Common.{None, Some, refl, ap}
+use Rattle.std.proofs.Common.{None, refl}
 use Rattle.shard_cmd.specs.Ends.{run_limits}
 use Rattle.shard_cmd.proofs.Histories.{begins, stays, misplaced}
 use Rattle.shard_cmd.proofs.history.step_outside.Goals as goal

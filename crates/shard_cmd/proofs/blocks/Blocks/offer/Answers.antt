@@ -1,5 +1,4 @@
-use Rattle.std.proofs.Common.{sym, ap, ap₂, ◌∙◌}
-use Rattle.fork_model.specs.Trees.{block_fault}
+use Rattle.std.proofs.Common.{sym, ◌∙◌}
 use Rattle.shard_cmd.specs.Blocks.{header_of}
 use Rattle.shard_cmd.proofs.Offers.{same_fault, refused_by_fault, refused_by_pairs, prev_live, fits_over, is_accepted}
 use Rattle.shard_cmd.proofs.blocks.Blocks.offer.Goals as goal
