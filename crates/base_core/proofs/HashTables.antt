@@ -1,5 +1,5 @@
 -- Hash tables as finite maps, for keys that are seen as byte strings.
-use Rattle.std.proofs.Common.{◌≡◌, ℕ, ◌+◌, Bool, true, false, cond, List, [], ◌∷◌, map, length, Option, None, Some, IfSome, is_some, IsTrue, T, sum_by, refl, sym, ap, subst, ◌∙◌, arith}
+use Rattle.std.proofs.Common.{◌≡◌, ℕ, ◌+◌, Bool, true, false, cond, List, [], ◌∷◌, map, length, Option, None, Some, is_some, refl, sym, ap, subst, ◌∙◌, arith}
 use Rattle.std.specs.Prelude.{nat_eq}
 use Rattle.std.specs.Option.{option_map}
 use Rattle.std.specs.Map.{lookup, keys_of, KeepsOthers}
@@ -7,7 +7,7 @@ use Rattle.std.specs.List.{AllByRecursion, IsDistinct}
 use Rattle.std.specs.Cmp.{eq_by_cmp_equiv}
 use Rattle.std.proofs.lemmas.Map.Lookups.{exact_bytes}
 use Rattle.std.specs.Cmp.Lexicographic.{pointwise, bytes_decides, texts_ties, nat_list_cmp_total}
-use Rattle.std.specs.FinMap.{FinMap, get, find, from_entries, insert, remove, len, entries, contains_key, empty, same_map, get-from_entries, get-insert, get-remove, get-empty, len-empty, len-insert}
+use Rattle.std.specs.FinMap.{FinMap, get, find, from_entries, insert, remove, len, contains_key, empty, same_map, get-from_entries, get-insert, get-remove, get-empty, len-empty, len-insert}
 use Rattle.base_core.proofs.ByteMaps.{order, is_same}
 
 turned : (q d : List ℕ) → is_same q d ≡ pointwise nat_eq d q

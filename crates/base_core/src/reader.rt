@@ -40,6 +40,16 @@ impl<'a> Reader<'a> {
         }
     }
 
+    /// A second reader at the same place. It takes no memory.
+    pub fn fork(&self) -> Reader<'a>
+        ensures { result ≡ self.now }
+    {
+        Reader {
+            left: self.left,
+            place: self.place,
+        }
+    }
+
     /// How many bytes were read.
     pub fn place(&self) -> u64
         ensures { result ≡ self.now.at }

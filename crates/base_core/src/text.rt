@@ -1,4 +1,5 @@
 ghost use Rattle.std.specs.Prelude.{◌≡◌, IfOk};
+ghost use Rattle.byte_model.specs.Nibbles.{AreBytes};
 
 use std::alloc::{AllocError, Global};
 use std::marker::Model;
@@ -20,7 +21,8 @@ impl Model for Text {
 impl Text {
     /// A copy of some bytes.
     pub fn copy(alloc: Global, bytes: &[u8]) -> Result<Text, AllocError>
-        ensures { IfOk result (λ text. text ≡ bytes.now) }
+        ensures copy { IfOk result (λ text. text ≡ bytes.now) }
+        ensures bytes { AreBytes bytes.now }
     {
         Ok(Text::from_bytes(Vec::from_slice(alloc, bytes)?))
     }

@@ -14,7 +14,7 @@ use Rattle.batch_model.proofs.Laying.{get_of_all}
 use Rattle.change_model.proofs.Balance.{set_values-after}
 
 -- the value of a key is among those of the rows
-value_in : (state : State) (key value : List ℕ) → get state key ≡ Some value → IsIn (map (λ row. row.1) (rows_of state)) value
+pub value_in : (state : State) (key value : List ℕ) → get state key ≡ Some value → IsIn (map (λ row. row.1) (rows_of state)) value
 unfolding rows_of
 value_in state key value is =
     get_of_all (λ (pair : Pair). IsIn (map (λ row. row.1) (rows_of state)) pair.1) state

@@ -4,13 +4,11 @@ use Rattle.std.specs.List.{count_by}
 use Rattle.std.specs.Cmp.Lexicographic.{pointwise}
 use Rattle.std.specs.FinMap.{entries, get}
 use Rattle.sha2.specs.Sha256.{sha256}
-use Rattle.byte_model.specs.Nibbles.{nibbles}
-use Rattle.trie_model.specs.State.{State, Row, rows_of}
+use Rattle.trie_model.specs.State.{State, rows_of}
 use Rattle.trie_model.specs.Root.{Holds, Table, digest_occurrences, occurrences, places_of, text_at, texts_of, zero_digest}
 use Rattle.trie_model.proofs.Members.{IsIn, all_at, all_of, contains_of_in, in_of_contains, in-append_left, in-append_right, in-append_cases, in-map, in_map_from}
-use Rattle.trie_model.proofs.Worked.{Pair, rows_of_pairs}
+use Rattle.change_model.proofs.Unchanged.{value_in}
 use Rattle.batch_model.specs.Changes.{Changes, Change, after}
-use Rattle.batch_model.proofs.Laying.{get_of_all}
 use Rattle.change_model.specs.Places.{is_written, written_places}
 use Rattle.change_model.specs.Ledger.{gain, made_texts, set_values}
 use Rattle.change_model.specs.Exchange.{taken_texts}
@@ -58,13 +56,6 @@ module _ (state : State) (changes : Changes) where
       nonzero : (t : List ℕ) → IsIn (texts_of state) t ⊎ IsIn (made_texts state changes) t → sha256 t ≢ zero_digest
       nonzero t (inl i) = all_at _ (texts_of state) t holds.nonzero i
       nonzero t (inr i) = (made t (contains_of_in (made_texts state changes) t i)).1
-
--- the value of a key is among the texts
-value_in : (state : State) (key value : List ℕ) → get state key ≡ Some value → IsIn (map (λ row. row.1) (rows_of state)) value
-unfolding rows_of
-value_in state key value is =
-    get_of_all (λ (pair : Pair). IsIn (map (λ row. row.1) (rows_of state)) pair.1) state
-    (all_of (λ (pair : Pair). IsIn (map (λ row. row.1) (rows_of state)) pair.1) (entries state) (λ pair i. in-map (λ (row : Row). row.1) (rows_of_pairs (entries state)) (nibbles pair.0, pair.1) (in-map (λ (pair : Pair). (nibbles pair.0, pair.1)) (entries state) pair i))) key value is
 
 -- what is made is in the state afterwards
 pub made_in : (state : State) (changes : Changes) (t : List ℕ) → IsIn (made_texts state changes) t → IsIn (texts_of (after state changes)) t

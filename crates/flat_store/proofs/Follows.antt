@@ -15,7 +15,7 @@ use Rattle.fork_model.proofs.Faults.{IsAccepted, accepted}
 use Rattle.fork_model.proofs.Lines.{by_lines, prev_from}
 use Rattle.fork_model.proofs.Passed.{passed-head, passed-over}
 use Rattle.fork_model.proofs.States.{block_key, block_of-at, over_prev, with_block-is}
-use Rattle.fork_model.proofs.Told.{found_live, states-along}
+use Rattle.fork_model.proofs.Told.{found_live, laid_along-push, states-along}
 use Rattle.flat_store.specs.Flats.{Deltas, FlatState, HasSameBlocks, IsFlatOf, delta_of, kept_of, laid_over, map_of}
 use Rattle.flat_store.proofs.Ways.{laid-push}
 
@@ -32,11 +32,6 @@ same_blocks blocks flat is id =
     by_test false (Some x) = refl
 
 -- ---- the state of each
-
-laid_along-push : (blocks : ForkState) (ids : List (List ℕ)) (id : List ℕ) (state : State) → laid_along blocks (ids ++ id ∷ []) state ≡ after (laid_along blocks ids state) (unwrap_or (changes_at blocks id) empty)
-unfolding laid_along
-laid_along-push blocks [] id state = refl
-laid_along-push blocks (x ∷ ids) id state = laid_along-push blocks ids id (after state (unwrap_or (changes_at blocks x) empty))
 
 module _ (blocks : ForkState) (flat : FlatState) (well : IsForkState blocks) (is : IsFlatOf blocks flat) where
   abbrev pub tree : BlockTree

@@ -137,7 +137,7 @@ moved-twice tree id other is live again =
 
 -- ---- states along lines
 
-laid_along-push : (forks : ForkState) (ids : List (List ℕ)) (id : List ℕ) (state : State) → laid_along forks (ids ++ id ∷ []) state ≡ after (laid_along forks ids state) (unwrap_or (changes_at forks id) empty)
+pub laid_along-push : (forks : ForkState) (ids : List (List ℕ)) (id : List ℕ) (state : State) → laid_along forks (ids ++ id ∷ []) state ≡ after (laid_along forks ids state) (unwrap_or (changes_at forks id) empty)
 unfolding laid_along
 laid_along-push forks [] id state = refl
 laid_along-push forks (x ∷ ids) id state = laid_along-push forks ids id (after state (unwrap_or (changes_at forks x) empty))

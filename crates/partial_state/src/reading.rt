@@ -5,7 +5,7 @@ ghost use Rattle.std.specs.Prelude.{◌≡◌, ◌≤◌, ◌<◌, length, true,
 ghost use Rattle.std.specs.List.{AllByRecursion};
 ghost use Rattle.std.specs.Option.{option_copied};
 ghost use Rattle.std.specs.FinMap.{entries};
-ghost use Rattle.byte_model.specs.Nibbles.{AreBytes, longest_key};
+ghost use Rattle.byte_model.specs.Nibbles.{longest_key};
 ghost use Rattle.byte_model.specs.Node.{longest_value};
 ghost use Rattle.batch_model.specs.Changes.{most_changes};
 ghost use Rattle.partial_model.specs.Recording.{IsKey, follows, keys_at, reads_at, change_at, changes_from, changes_at};
@@ -36,20 +36,12 @@ fn read_keys(alloc: Global, reader: &mut Reader<'_>, count: u32) -> Result<Vec<T
 {
     let mut keys = Vec::new(alloc);
     for _ in 0..count {
-        let key = copied(alloc, read_within(reader, LONGEST_KEY)?)?;
+        let key = Text::copy(alloc, read_within(reader, LONGEST_KEY)?)?;
         let Ok(()) = keys.push(key) else {
             return Err(ProofError::NoMemory);
         };
     }
     Ok(keys)
-}
-
-/// A copy of some bytes.
-fn copied(alloc: Global, bytes: &[u8]) -> Result<Text, AllocError>
-    ensures copy { IfOk result (λ copy. copy ≡ bytes.now) }
-    ensures bytes { AreBytes bytes.now }
-{
-    Text::copy(alloc, bytes)
 }
 
 /// The changes, which stand by rising keys.

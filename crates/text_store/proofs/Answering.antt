@@ -82,6 +82,9 @@ first_answered c texts d (Ok held) listed h =
     (first_tested c texts d listed ∙ rw h.0 (ap (λ ts. Ok (ts, d)) (sym same)), h.1 ∙ ap unread (sym same))
 first_answered c texts d (Err error) listed h = refused_alike error (tested texts) (partial_at c) (λ fault k. first_tested c texts d listed ∙ rw k refl) h
 
+pub first_untested : (c : Cursor) (texts : List (List ℕ)) (d : Cursor) (result : Result PartialState PartialError) (error : PartialError) → IsErrAnd result (λ given. given ≡ error) → listed_at c ≡ Ok (texts, d) → IsRefused error (tested texts) → AnswersFirst result c c
+first_untested c texts d result error is listed h = passed_on (λ r. AnswersFirst r c c) result error is (first_answered c texts d (Err error) listed h)
+
 -- texts that are spelled and read don't clash
 pub read_apart : (texts : List (List ℕ)) (bytes : List ℕ) (held : PartialState) → IsPartial texts → NoClash held.texts → bytes ≡ spelled_partial texts → partial_in bytes ≡ Ok held.texts → NoClash texts
 read_apart texts bytes held partial apart is read =

@@ -5,7 +5,6 @@ ghost use Rattle.std.specs.Option.{option_map};
 ghost use Rattle.std.specs.Cmp.Lexicographic.{pointwise};
 ghost use Rattle.indexmap.specs.IndexMap.{values};
 ghost use Rattle.sha2.specs.Sha256.{sha256};
-ghost use Rattle.byte_model.specs.Nibbles.{AreBytes};
 ghost use Rattle.partial_model.specs.Texts.{lesser};
 ghost use Rattle.text_store.specs.PartialStates.{digest_taken, fresh_entry, has_digest};
 
@@ -54,12 +53,4 @@ pub(crate) fn least_of(least: Option<Digest>, digest: Digest) -> Digest
         Some(least) => least.min(digest),
         None => digest,
     }
-}
-
-/// A copy of some bytes.
-pub(crate) fn copied(alloc: Global, text: &[u8]) -> Result<Text, AllocError>
-    ensures copy { IfOk result (λ copy. copy ≡ text.now) }
-    ensures bytes { AreBytes text.now }
-{
-    Text::copy(alloc, text)
 }

@@ -1,4 +1,4 @@
-ghost use Rattle.std.specs.Prelude.{◌≡◌, ◌^◌, ◌<◌, length, map, Some, IfOk, IsOk, ⊤};
+ghost use Rattle.std.specs.Prelude.{◌≡◌, ◌^◌, ◌<◌, length, map, Some, IfOk, IfErr, IsOk, ⊤};
 ghost use Rattle.std.specs.List.{slice_get, AllByRecursion};
 ghost use Rattle.std.specs.Option.{option_copied};
 ghost use Rattle.std.specs.Borrow.{sem, follows_so};
@@ -12,7 +12,7 @@ ghost use Rattle.text_store.specs.contracts.partial_texts.PartialTexts.{the_row}
 
 use crate::errors::PartialError;
 use crate::keyed::{Keyed, key_of_set, key_of_texts};
-use crate::marked::{Marked, copied, first_unmarked, hold, least_of};
+use crate::marked::{Marked, first_unmarked, hold, least_of};
 use crate::partial_reading::{fall_among, read_texts};
 use crate::text_set::TextSet;
 use crate::texts::Texts;
@@ -53,13 +53,17 @@ impl PartialTexts {
         PartialTexts::of_texts(alloc, texts.as_slice())
     }
 
-    /// The partial state that the next bytes of a reader spell. The reader is left behind it. Where
-    /// it is refused, nothing is said of the reader.
+    /// The partial state that the next bytes of a reader spell. The reader is left behind it, or
+    /// where it was.
     pub fn read_from(alloc: Global, r: &mut Reader<'_>) -> Result<PartialTexts, PartialError>
-        ensures { AnswersFirst result r.old r.new }
+        ensures read { AnswersFirst result r.old r.new }
+        ensures refused { IfErr result (λ _. r.new ≡ r.old) }
     {
-        let texts = read_texts(alloc, r)?;
-        PartialTexts::of_texts(alloc, texts.as_slice())
+        let mut ahead = r.fork();
+        let texts = read_texts(alloc, &mut ahead)?;
+        let held = PartialTexts::of_texts(alloc, texts.as_slice())?;
+        *r = ahead;
+        Ok(held)
     }
 
     /// The texts of a set, none of which was loaded. They are not copied.
@@ -114,7 +118,7 @@ impl PartialTexts {
         let mut held = IndexMap::with_hasher(alloc, key_of_texts(texts));
         let mut least: Option<Digest> = None;
         for text in texts {
-            if let Some(digest) = hold(&mut held, copied(alloc, text)?)? {
+            if let Some(digest) = hold(&mut held, Text::copy(alloc, text)?)? {
                 least = Some(least_of(least, digest));
             }
         }

@@ -34,22 +34,22 @@ returns-in_err-state-clause-answer c =
     let root_is : bytes_at digest_width (start_of c.args.bytes.now) ≡ Ok (c.in_ok-root.root.0, c.digest.new.self) = subst (λ cursor. bytes_at digest_width cursor ≡ Ok (c.in_ok-root.root.0, c.digest.new.self)) c.new-reader.ensures c.in_ok-root.ensures in
     let begins : Begins c.args.bytes.now c.in_ok-root.root.0 c.in_ok-reads.reads.items c.read_reads.new.reader = record { before = c.digest.new.self; root_is = root_is; reads_are = c.in_ok-reads.ensures.read } in
     answers_refused c.args.bytes.now c.from_residual-in_err-state.result (passed c.in_err-state.field-0.0) c.from_residual-in_err-state.ensures.1
-    (state_refused c.args.bytes.now c.in_ok-root.root.0 c.in_ok-reads.reads.items c.read_reads.new.reader (entries c.in_ok-changes.changes.changes) c.read_changes.new.reader begins c.in_ok-changes.ensures.read c.in_err-state.field-0.0 c.in_err-state.ensures)
+    (state_refused c.args.bytes.now c.in_ok-root.root.0 c.in_ok-reads.reads.items c.read_reads.new.reader (entries c.in_ok-changes.changes.changes) c.read_changes.new.reader begins c.in_ok-changes.ensures.read c.in_err-state.field-0.0 c.in_err-state.ensures.read)
 
 pub returns-in_err-end-clause-answer : goal.returns-in_err-end-clause-answer
 returns-in_err-end-clause-answer c =
     let root_is : bytes_at digest_width (start_of c.args.bytes.now) ≡ Ok (c.in_ok-root.root.0, c.digest.new.self) = subst (λ cursor. bytes_at digest_width cursor ≡ Ok (c.in_ok-root.root.0, c.digest.new.self)) c.new-reader.ensures c.in_ok-root.ensures in
     let begins : Begins c.args.bytes.now c.in_ok-root.root.0 c.in_ok-reads.reads.items c.read_reads.new.reader = record { before = c.digest.new.self; root_is = root_is; reads_are = c.in_ok-reads.ensures.read } in
     answers_refused c.args.bytes.now c.from_residual-in_err-end.result (Frame c.in_err-end.field-0.0) c.from_residual-in_err-end.ensures.1
-    (left_over c.args.bytes.now c.in_ok-root.root.0 c.in_ok-reads.reads.items c.read_reads.new.reader c.in_ok-changes.changes.changes c.read_changes.new.reader c.in_ok-state.state.texts c.read_from.new.r begins c.in_ok-changes.ensures.read c.in_ok-state.ensures.0 (fault_of c.in_err-end.field-0.0) c.in_err-end.ensures)
+    (left_over c.args.bytes.now c.in_ok-root.root.0 c.in_ok-reads.reads.items c.read_reads.new.reader c.in_ok-changes.changes.changes c.read_changes.new.reader c.in_ok-state.state.texts c.read_from.new.r begins c.in_ok-changes.ensures.read c.in_ok-state.ensures.read.0 (fault_of c.in_err-end.field-0.0) c.in_err-end.ensures)
 
 pub returns-clause-answer : goal.returns-clause-answer
 returns-clause-answer c =
     let root_is : bytes_at digest_width (start_of c.args.bytes.now) ≡ Ok (c.in_ok-root.root.0, c.digest.new.self) = subst (λ cursor. bytes_at digest_width cursor ≡ Ok (c.in_ok-root.root.0, c.digest.new.self)) c.new-reader.ensures c.in_ok-root.ensures in
     let begins : Begins c.args.bytes.now c.in_ok-root.root.0 c.in_ok-reads.reads.items c.read_reads.new.reader = record { before = c.digest.new.self; root_is = root_is; reads_are = c.in_ok-reads.ensures.read } in (
-      all_read c.args.bytes.now c.in_ok-root.root.0 c.in_ok-reads.reads.items c.read_reads.new.reader c.in_ok-changes.changes.changes c.read_changes.new.reader c.in_ok-state.state.texts c.read_from.new.r begins c.in_ok-changes.ensures.read c.in_ok-state.ensures.0 c.in_ok-end.ensures
+      all_read c.args.bytes.now c.in_ok-root.root.0 c.in_ok-reads.reads.items c.read_reads.new.reader c.in_ok-changes.changes.changes c.read_changes.new.reader c.in_ok-state.state.texts c.read_from.new.r begins c.in_ok-changes.ensures.read c.in_ok-state.ensures.read.0 c.in_ok-end.ensures
           ∙ ap (λ (ops : Operations). Ok (record { root = c.in_ok-root.root.0; reads = ops.reads; changes = ops.batch.changes; state = c.in_ok-state.state.texts })) (sym c.of_parts-ops.ensures),
-      record { most = ap (λ (ops : Operations). ops.batch.most) c.of_parts-ops.ensures ∙ c.in_ok-changes.ensures.most; unmarked = c.in_ok-state.ensures.1 },
+      record { most = ap (λ (ops : Operations). ops.batch.most) c.of_parts-ops.ensures ∙ c.in_ok-changes.ensures.most; unmarked = c.in_ok-state.ensures.read.1 },
     )
 
 pub returns-clause-spelled : goal.returns-clause-spelled

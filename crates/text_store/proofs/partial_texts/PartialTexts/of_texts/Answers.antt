@@ -17,15 +17,15 @@ loop-text-preserved c =
     let long : length (bytes_of c.args.texts.now) ≡ length c.args.texts.now = length-map c.args.texts.now _ in
     let more : c.loop-text.text-index < length c.args.texts.now = search rules in
     let within : c.loop-text.text-index < length (bytes_of c.args.texts.now) = omega (arith, long, more) in
-    let here : get_or (bytes_of c.args.texts.now) c.loop-text.text-index [] ≡ c.in_ok-copied.field-0 = element c.args.texts.now c.loop-text.text-index _ c.in_ok-copied.field-0 refl c.in_ok-copied.ensures.copy in
-    let small : AreBytes c.in_ok-copied.field-0 = subst AreBytes (sym c.in_ok-copied.ensures.copy) c.copied.ensures.bytes in
+    let here : get_or (bytes_of c.args.texts.now) c.loop-text.text-index [] ≡ c.in_ok-copy.field-0 = element c.args.texts.now c.loop-text.text-index _ c.in_ok-copy.field-0 refl c.in_ok-copy.ensures.copy in
+    let small : AreBytes c.in_ok-copy.field-0 = subst AreBytes (sym c.in_ok-copy.ensures.copy) c.copy.ensures.bytes in
     elim c.match-branch-3.branch [
-      | in-Some-2 w ↦ Gathers-more (bytes_of c.args.texts.now) c.loop-text.text-index c.in_ok-copied.field-0 c.loop-text.held.entries c.hold.new.held.entries c.loop-text.least c.match-branch-3.least within here small c.in_ok-digest.ensures.has
+      | in-Some-2 w ↦ Gathers-more (bytes_of c.args.texts.now) c.loop-text.text-index c.in_ok-copy.field-0 c.loop-text.held.entries c.hold.new.held.entries c.loop-text.least c.match-branch-3.least within here small c.in_ok-digest.ensures.has
           (ap name_of w.least-is ∙ w.least_of.ensures ∙ ap (lesser (name_of c.loop-text.least)) (sym (ap name_of w.in-Some-2.is) ∙ c.in_ok-digest.ensures.taken))
           (λ none. absurd (some_is_none w.least_of.result (sym w.least-is ∙ none))) c.loop-text.invariant
-      | in_default-2 w ↦ Gathers-more (bytes_of c.args.texts.now) c.loop-text.text-index c.in_ok-copied.field-0 c.loop-text.held.entries c.hold.new.held.entries c.loop-text.least c.match-branch-3.least within here small c.in_ok-digest.ensures.has
+      | in_default-2 w ↦ Gathers-more (bytes_of c.args.texts.now) c.loop-text.text-index c.in_ok-copy.field-0 c.loop-text.held.entries c.hold.new.held.entries c.loop-text.least c.match-branch-3.least within here small c.in_ok-digest.ensures.has
           (ap name_of w.least-is ∙ sym (lesser-none (name_of c.loop-text.least)) ∙ ap (lesser (name_of c.loop-text.least)) (sym (ap name_of w.in_default-2.is) ∙ c.in_ok-digest.ensures.taken))
-          (λ none. (subst (λ o. IfNone o (c.hold.new.held.entries ≡ c.loop-text.held.entries ++ fresh_entry c.in_ok-copied.field-0 ∷ [])) w.in_default-2.is c.in_ok-digest.ensures.last, sym w.least-is ∙ none)) c.loop-text.invariant
+          (λ none. (subst (λ o. IfNone o (c.hold.new.held.entries ≡ c.loop-text.held.entries ++ fresh_entry c.in_ok-copy.field-0 ∷ [])) w.in_default-2.is c.in_ok-digest.ensures.last, sym w.least-is ∙ none)) c.loop-text.invariant
     ]
 
 pub invariant_of-result : goal.invariant_of-result
