@@ -1,12 +1,12 @@
 #!/usr/bin/env python3
 """Writes batches of changes, an input of trie_bench, to standard output, the same for the same words.
 
-    batches.py [PAIRS] [SIZE] [BATCHES] [SEED] [KIND] [WORD]
+    batches.py [PAIRS] [SIZE] [BATCHES] [SEED] [KIND] [WORD..]
 
 The texts of the trie of so many pairs (20000), in random order: a key has 32 random bytes, a value 64.
 Then the root, and so many batches (100) of so many changes (20): one in two is of a key that is held,
-which KIND `sets` sets and KIND `deletes` deletes; the others set new keys. Behind each batch stands
-WORD: `update`, `hash` or `skip`. All batches are of the same trie.
+which KIND `sets` sets and KIND `deletes` deletes; the others set new keys. Behind each batch stand
+the words: `skip`, or `update` and maybe `hash`, once or more. All batches are of the same trie.
 """
 
 import random
@@ -15,7 +15,7 @@ import sys
 import lookups
 
 KINDS = ("sets", "deletes")
-WORDS = ("update", "hash", "skip")
+WORDS = ("skip", "update", "hash")
 
 
 def make(pairs, size, count, seed, kind):
@@ -38,23 +38,21 @@ def batch(dice, keys, size, kind):
     return lines
 
 
-def write_input(out, trie, texts, batches, word):
-    for text in texts:
-        out.write(b"text %s\n" % text.hex().encode())
-    out.write(b"root %s\n" % trie.root.hex().encode())
-    for lines in batches:
-        out.write("".join(f"{line}\n" for line in lines).encode())
-        out.write(f"{word}\n".encode())
+def batch_lines(batches, endings):
+    """The batches, each with some words behind it."""
+    ending = "".join(f"{word}\n" for word in endings)
+    return "".join("".join(f"{line}\n" for line in lines) + ending for lines in batches).encode()
 
 
 def main(words):
-    kind, word = (words[4:] + ["deletes", "update"][len(words[4:]):])[:2]
-    if len(words) > 6 or kind not in KINDS or word not in WORDS:
+    kind, ending = (words[4:5] or ["deletes"])[0], words[5:] or ["update"]
+    if kind not in KINDS or not set(ending) <= set(WORDS):
         sys.exit(__doc__)
     numbers = [int(number) for number in words[:4]]
     pairs, size, count, seed = numbers + [20000, 20, 100, 1][len(numbers):]
-    made = make(pairs, size, count, seed, kind)
-    write_input(sys.stdout.buffer, *made, word)
+    trie, texts, made = make(pairs, size, count, seed, kind)
+    sys.stdout.buffer.write(lookups.text_lines(trie, texts))
+    sys.stdout.buffer.write(batch_lines(made, ending))
 
 
 if __name__ == "__main__":

@@ -83,11 +83,14 @@ def make(pairs, lookups, seed):
     return trie, texts, keys
 
 
-def write_input(out, trie, texts, keys, word):
-    for text in texts:
-        out.write(b"text %s\n" % text.hex().encode())
-    out.write(b"root %s\n" % trie.root.hex().encode())
-    out.write("".join(f"{word} {key}\n" for key in keys).encode())
+def text_lines(trie, texts):
+    """The lines that have a program hold the texts, and work below the root."""
+    lines = [b"text %s\n" % text.hex().encode() for text in texts]
+    return b"".join(lines) + b"root %s\n" % trie.root.hex().encode()
+
+
+def key_lines(keys, word):
+    return "".join(f"{word} {key}\n" for key in keys).encode()
 
 
 def main(words):
@@ -95,8 +98,9 @@ def main(words):
         sys.exit(__doc__)
     numbers = [int(word) for word in words[:3]]
     pairs, lookups, seed = numbers + [200000, 1000000, 1][len(numbers):]
-    made = make(pairs, lookups, seed)
-    write_input(sys.stdout.buffer, *made, words[3] if len(words) == 4 else "get")
+    trie, texts, keys = make(pairs, lookups, seed)
+    sys.stdout.buffer.write(text_lines(trie, texts))
+    sys.stdout.buffer.write(key_lines(keys, words[3] if len(words) == 4 else "get"))
 
 
 if __name__ == "__main__":

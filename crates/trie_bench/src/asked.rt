@@ -17,25 +17,18 @@ pub enum Asked {
     Set(Vec<u8>, Vec<u8>),
     /// Takes the deletion of a key into the batch.
     Del(Vec<u8>),
-    /// Ends the batch.
-    Batch(Ending),
-}
-
-/// What is done with a batch.
-#[derive(Clone, Copy, Debug, PartialEq, Eq)]
-pub enum Ending {
-    /// It is carried out, and what comes of it is dropped.
+    /// Carries the batch out.
     Update,
-    /// The same, and each text that it made is hashed once more.
-    Hash,
-    /// It is dropped: what reading it costs.
+    /// Drops the batch: what reading it costs.
     Skip,
+    /// Hashes each text that the last batch made once more.
+    Hash,
 }
 
 /// What a line asks for: a word, and behind a space each an even number of hexadecimal digits.
 pub fn read_line(alloc: Global, line: &[u8]) -> Result<Asked, BenchError> {
     let Some(space) = line.iter().position(|byte| *byte == b' ') else {
-        return read_ending(line);
+        return read_word(line);
     };
     let word = &line[..space];
     let rest = &line[space + 1..];
@@ -53,11 +46,11 @@ pub fn read_line(alloc: Global, line: &[u8]) -> Result<Asked, BenchError> {
     }
 }
 
-fn read_ending(line: &[u8]) -> Result<Asked, BenchError> {
+fn read_word(line: &[u8]) -> Result<Asked, BenchError> {
     match line {
-        b"update" => Ok(Asked::Batch(Ending::Update)),
-        b"hash" => Ok(Asked::Batch(Ending::Hash)),
-        b"skip" => Ok(Asked::Batch(Ending::Skip)),
+        b"update" => Ok(Asked::Update),
+        b"skip" => Ok(Asked::Skip),
+        b"hash" => Ok(Asked::Hash),
         _ => Err(BenchError::Line),
     }
 }

@@ -1,4 +1,4 @@
-use crate::asked::{Asked, Ending};
+use crate::asked::Asked;
 use crate::bench_error::BenchError;
 use base_core::{Changes, Digest, LONGEST_KEY, Limits, PutError, Text, digest};
 use std::alloc::Global;
@@ -7,16 +7,18 @@ use text_store::{AddError, MemNodes, Nodes, ReserveError, Texts};
 use trie_read::get;
 use trie_update::{Made, update};
 
-/// The texts held, the root, the batch that is taken in, how many look-ups found a value, and how
-/// many texts were made by batches.
+/// The texts held, the root, the batch that is taken in, what the last one made, how many look-ups
+/// found a value, how many texts batches made, and how many were hashed once more.
 #[derive(Debug, Drop)]
 pub struct Bench {
     alloc: Global,
     store: MemNodes,
     root: Digest,
     batch: Changes,
+    last: Option<Made>,
     found: u64,
     made: u64,
+    hashed: u64,
 }
 
 impl Bench {
@@ -27,8 +29,10 @@ impl Bench {
             store: MemNodes::new(alloc, &[])?,
             root: Digest::ZERO,
             batch: no_changes(alloc),
+            last: None,
             found: 0,
             made: 0,
+            hashed: 0,
         })
     }
 
@@ -49,7 +53,15 @@ impl Bench {
                 )
             }
             Asked::Del(key) => taken(self.batch.remove(Text::from_bytes(key))),
-            Asked::Batch(ending) => self.carry_out(ending),
+            Asked::Update => self.carry_out(),
+            Asked::Skip => {
+                self.batch = no_changes(self.alloc);
+                Ok(())
+            }
+            Asked::Hash => {
+                self.hash_once_more();
+                Ok(())
+            }
         }
     }
 
@@ -66,6 +78,11 @@ impl Bench {
     /// How many texts batches made.
     pub fn made(&self) -> u64 {
         self.made
+    }
+
+    /// How many texts were hashed once more.
+    pub fn hashed(&self) -> u64 {
+        self.hashed
     }
 
     /// Holds a text under its digest, if it is not held.
@@ -101,21 +118,22 @@ impl Bench {
 
     /// Carries the batch out on the trie below the root. The store stays as it is, so that the next
     /// batch finds the same trie.
-    fn carry_out(&mut self, ending: Ending) -> Result<(), BenchError> {
+    fn carry_out(&mut self) -> Result<(), BenchError> {
         let batch = mem::replace(&mut self.batch, no_changes(self.alloc));
-        if ending == Ending::Skip {
-            return Ok(());
-        }
+        self.last = None;
         match update(self.alloc, &mut self.store, &self.root, &batch) {
             Ok(change) => {
-                let made = match ending {
-                    Ending::Hash => hash(change.made),
-                    _ => change.made.len(),
-                };
-                self.made = self.made.saturating_add(made);
+                self.made = self.made.saturating_add(change.made.len());
+                self.last = Some(change.made);
                 Ok(())
             }
             Err(_) => Err(BenchError::Trie),
+        }
+    }
+
+    fn hash_once_more(&mut self) {
+        if let Some(made) = &self.last {
+            self.hashed = self.hashed.saturating_add(hash(made));
         }
     }
 }
@@ -133,12 +151,10 @@ fn taken(answer: Result<(), PutError>) -> Result<(), BenchError> {
 }
 
 /// Hashes texts, and answers how many of them have the digest that was told.
-fn hash(mut made: Made) -> u64 {
+fn hash(made: &Made) -> u64 {
     let mut hashed = 0u64;
-    for _ in 0..u64::MAX {
-        let Some(text) = made.take_first() else {
-            break;
-        };
+    for place in 0..made.len() {
+        let text = made.at(place);
         if digest(text.text.as_slice()) == text.digest {
             hashed = hashed.saturating_add(1);
         }

@@ -5,7 +5,7 @@ use thiserror::Error;
 /// Why the program gives up.
 #[derive(Clone, Copy, Debug, PartialEq, Eq, Error)]
 pub enum BenchError {
-    #[error("a line is none of these: text HEX, root HEX, get HEX, key HEX, set HEX HEX, del HEX, update, hash, skip")]
+    #[error("a line is none of these: text HEX, root HEX, get HEX, key HEX, set HEX HEX, del HEX, update, skip, hash")]
     Line,
     #[error("the input could not be read")]
     Input,

@@ -15,10 +15,11 @@ fn main(rt: HostRuntime) -> ExitCode {
     let mut source = StdSource::new(rt.reader());
     let answer = match run(rt.alloc(), &mut source) {
         Ok(bench) => println!(rt;
-            "found {} loads {} made {}",
+            "found {} loads {} made {} hashed {}",
             bench.found(),
             bench.loads(),
-            bench.made()
+            bench.made(),
+            bench.hashed()
         ),
         Err(error) => {
             let _ = eprintln!(rt; "{error}");
