@@ -21,14 +21,14 @@ loop-key-preserved-then-contains_key c = (
 
 pub put-requires : goal.put-requires
 put-requires c = record {
-  pair = unchanged-pair _ _ _ _ _ _ _ c.in-Some.ensures.steps c.loop-key.invariant.0 c.loop-key.invariant.1 c.in_ok-value.value c.in_ok-key.key (c.in_ok-value.ensures ∙ c.as_slice-in-loop-key.ensures) (c.in_ok-key.ensures ∙ c.as_slice.ensures.value)
+  pair = unchanged-pair _ _ _ _ _ _ _ c.in-Some.ensures.steps c.loop-key.invariant.0 c.loop-key.invariant.1 c.in_ok-value.value c.in_ok-key.key (c.in_ok-value.ensures.copy ∙ c.as_slice-in-loop-key.ensures) (c.in_ok-key.ensures.copy ∙ c.as_slice.ensures.value)
       c.requires.pairs;
 }
 
 pub loop-key-preserved : goal.loop-key-preserved
 loop-key-preserved c = (
   unchanged-put _ _ _ _ _ _ _ c.in-Some.ensures.steps c.loop-key.invariant.0 c.loop-key.invariant.1 c.in_ok-value.value c.in_ok-key.key _ c.contains_key.result c.if-contains_key.false c.contains_key.ensures
-      (c.in_ok-value.ensures ∙ c.as_slice-in-loop-key.ensures) (c.in_ok-key.ensures ∙ c.as_slice.ensures.value) (ap (λ (m : PairMap). m.state) c.in_ok-put.ensures.ok),
+      (c.in_ok-value.ensures.copy ∙ c.as_slice-in-loop-key.ensures) (c.in_ok-key.ensures.copy ∙ c.as_slice.ensures.value) (ap (λ (m : PairMap). m.state) c.in_ok-put.ensures.ok),
   unchanged-rest _ _ _ _ _ _ _ c.in-Some.ensures.steps c.loop-key.invariant.0 c.loop-key.invariant.1,
   ap (λ (m : PairMap). m.most) c.in_ok-put.ensures.ok ∙ c.loop-key.invariant.2,
 )
@@ -37,7 +37,7 @@ pub returns-in_err-put-clause-full : goal.returns-in_err-put-clause-full
 returns-in_err-put-clause-full c = λ full.
     let bound = c.in_err-put.ensures.full (passed_on c.from_residual-in_err-put.result c.in_err-put.field-0.0 _ c.from_residual-in_err-put.ensures.1 full) in
     unchanged-full _ _ _ _ _ _ _ c.in-Some.ensures.steps c.loop-key.invariant.0 c.loop-key.invariant.1 c.in_ok-key.key c.args.pairs.now.most c.contains_key.result c.if-contains_key.false c.contains_key.ensures
-    (c.in_ok-key.ensures ∙ c.as_slice.ensures.value) bound.1 (subst (λ (m : ℕ). m ≤ length (entries c.loop-key.pairs.state)) c.loop-key.invariant.2 bound.0)
+    (c.in_ok-key.ensures.copy ∙ c.as_slice.ensures.value) bound.1 (subst (λ (m : ℕ). m ≤ length (entries c.loop-key.pairs.state)) c.loop-key.invariant.2 bound.0)
 
 pub returns-clause-ok : goal.returns-clause-ok
 returns-clause-ok c = filled-all _ _ _ c.loop-key.invariant.0 c.in-None.ensures.steps.0

@@ -11,7 +11,7 @@ pub unreachable-requires : goal.unreachable-requires
 unreachable-requires c =
     let key = c.in_ok-key.key in
     let short : length key ≤ longest_key = (let count = length-nibbles key in let same = ap length c.in_ok-key.ensures in let within = c.requires.short in omega arith) in
-    let few : length c.in_ok-value.value ≤ longest_value = subst (λ (v : List ℕ). length v ≤ longest_value) (sym c.in_ok-value.ensures) c.requires.value in
+    let few : length c.in_ok-value.value ≤ longest_value = subst (λ (v : List ℕ). length v ≤ longest_value) (sym c.in_ok-value.ensures.copy) c.requires.value in
     let only : IsOkUnless c.put.result NoMemory = c.put.ensures.fits short few c.requires.room in
     let is : c.in-Err-KeyLong.field-0 ≡ NoMemory = subst (λ (r : Result (Unit {0}) PutError). IsOkUnless r NoMemory) c.in-Err-KeyLong.is only in
     let other = c.in-Err-KeyLong.field-0-is in
