@@ -48,6 +48,13 @@ fn delete(alloc: Global, changes: &mut Changes, key: &[u8]) -> Result<(), AllocE
     }
 }
 
+/// A key is set.
+fn one_set(alloc: Global, key: &[u8], value: &[u8]) -> Result<Changes, AllocError> {
+    let mut changes = Changes::new(alloc, 1);
+    set(alloc, &mut changes, key, value)?;
+    Ok(changes)
+}
+
 /// The keys 61 and 62 are set.
 fn two_set(alloc: Global, first: &[u8], second: &[u8]) -> Result<Changes, AllocError> {
     let mut changes = Changes::new(alloc, 2);
@@ -89,9 +96,13 @@ fn offer_at(
     })
 }
 
-/// How often a text is counted.
+/// How often a text is counted, by its digest.
+fn count_of(shard: &Shard<MemNodes>, name: &Digest) -> u64 {
+    shard.tries.nodes.count(name)
+}
+
 fn counted(shard: &Shard<MemNodes>, text: &[u8]) -> u64 {
-    shard.tries.nodes.count(&digest(text))
+    count_of(shard, &digest(text))
 }
 
 /// What is kept, as live blocks, the head's pairs, changed keys and different texts.
@@ -99,6 +110,71 @@ fn kept(shard: &Shard<MemNodes>) -> (u64, u64, u64, u64) {
     match shard.stats() {
         Ok(stats) => (stats.live, stats.pairs, stats.deltas, stats.distinct),
         Err(Stopped) => (0, 0, 0, 0),
+    }
+}
+
+/// Moves the head.
+fn move_to(shard: &mut Shard<MemNodes>, n: u8) -> Result<(u64, u64), HeadError> {
+    match shard.move_head(&id(n)) {
+        Ok(moved) => Ok((moved.passed, moved.dropped)),
+        Err(error) => Err(error),
+    }
+}
+
+fn root_of(shard: &Shard<MemNodes>, n: u8) -> Result<Digest, FlatError> {
+    shard.root_of(&id(n))
+}
+
+fn same(shard: &Shard<MemNodes>, a: u8, b: u8) -> Result<bool, FlatError> {
+    shard.same(&id(a), &id(b))
+}
+
+fn usage(shard: &mut Shard<MemNodes>, n: u8) -> Result<u64, TrieError> {
+    shard.usage(&id(n))
+}
+
+/// What flat storage has of the key b.
+fn expect_flat(
+    rt: &impl Abort,
+    shard: &Shard<MemNodes>,
+    n: u8,
+    value: Result<Option<&[u8]>, FlatError>,
+) {
+    assert!(rt; shard.flat(&id(n), b"b") == value);
+}
+
+/// What a trie has of it.
+fn expect_trie(
+    rt: &impl Abort,
+    shard: &mut Shard<MemNodes>,
+    n: u8,
+    value: Result<Option<&[u8]>, TrieError>,
+) {
+    assert!(rt; shard.trie(&id(n), b"b") == value);
+}
+
+/// How many pairs the map of a block has.
+fn pairs_of(alloc: Global, shard: &Shard<MemNodes>, n: u8) -> Option<u64> {
+    match shard.pairs(alloc, &id(n)) {
+        Ok(pairs) => Some(pairs.len()),
+        Err(_) => None,
+    }
+}
+
+/// How many texts were loaded.
+fn loaded(shard: &Shard<MemNodes>) -> u64 {
+    shard.tries.nodes.loads()
+}
+
+/// A copy of the text of a digest.
+fn text_of(
+    alloc: Global,
+    shard: &mut Shard<MemNodes>,
+    name: &Digest,
+) -> Result<Option<Text>, AllocError> {
+    match shard.tries.nodes.load(name) {
+        Ok(Some(text)) => Ok(Some(Text::copy(alloc, text)?)),
+        _ => Ok(None),
     }
 }
 
@@ -111,13 +187,7 @@ fn one_of_two_deleted(rt: HostRuntime) -> Result<(), Fail> {
     assert!(rt; offer(&mut shard, 2, 1, second_deleted(alloc)?).is_ok());
     assert_eq!(rt; (counted(&shard, b"a"), counted(&shard, b"b")), (1, 1));
     assert_eq!(rt; kept(&shard), (3, 0, 3, 7));
-    assert_eq!(rt;
-        shard.move_head(&id(2)),
-        Ok(HeadMoved {
-            passed: 2,
-            dropped: 0
-        })
-    );
+    assert_eq!(rt; move_to(&mut shard, 2), Ok((2, 0)));
     assert_eq!(rt; (counted(&shard, b"a"), counted(&shard, b"b")), (1, 0));
     assert_eq!(rt; kept(&shard), (1, 1, 0, 2));
     Ok(())
@@ -130,11 +200,9 @@ fn one_of_two_alike_deleted(rt: HostRuntime) -> Result<(), Fail> {
     let mut shard = start(alloc, &[], Limits::FULL)?;
     assert!(rt; offer(&mut shard, 1, 0, two_set(alloc, b"v", b"v")?).is_ok());
     assert!(rt; offer(&mut shard, 2, 1, second_deleted(alloc)?).is_ok());
-    assert_eq!(rt; counted(&shard, b"v"), 2);
-    assert_eq!(rt; kept(&shard), (3, 0, 3, 5));
-    assert!(rt; shard.move_head(&id(2)).is_ok());
-    assert_eq!(rt; counted(&shard, b"v"), 1);
-    assert_eq!(rt; kept(&shard), (1, 1, 0, 2));
+    assert_eq!(rt; (counted(&shard, b"v"), kept(&shard)), (2, (3, 0, 3, 5)));
+    assert_eq!(rt; move_to(&mut shard, 2), Ok((2, 0)));
+    assert_eq!(rt; (counted(&shard, b"v"), kept(&shard)), (1, (1, 1, 0, 2)));
     Ok(())
 }
 
@@ -145,19 +213,13 @@ fn two_forks_alike(rt: HostRuntime) -> Result<(), Fail> {
     let mut shard = start(alloc, &[], Limits::FULL)?;
     assert!(rt; offer(&mut shard, 1, 0, two_set(alloc, b"a", b"b")?).is_ok());
     assert!(rt; offer(&mut shard, 2, 0, two_set(alloc, b"a", b"b")?).is_ok());
-    assert_eq!(rt; shard.same(&id(1), &id(2)), Ok(true));
-    assert_eq!(rt; shard.same(&id(0), &id(2)), Ok(false));
-    assert_eq!(rt; (counted(&shard, b"a"), counted(&shard, b"b")), (2, 2));
-    assert_eq!(rt; kept(&shard), (3, 0, 4, 6));
     assert_eq!(rt;
-        shard.move_head(&id(1)),
-        Ok(HeadMoved {
-            passed: 1,
-            dropped: 1
-        })
+        (same(&shard, 1, 2), same(&shard, 0, 2)),
+        (Ok(true), Ok(false))
     );
-    assert_eq!(rt; (counted(&shard, b"a"), counted(&shard, b"b")), (1, 1));
-    assert_eq!(rt; kept(&shard), (1, 2, 0, 6));
+    assert_eq!(rt; (counted(&shard, b"a"), kept(&shard)), (2, (3, 0, 4, 6)));
+    assert_eq!(rt; move_to(&mut shard, 1), Ok((1, 1)));
+    assert_eq!(rt; (counted(&shard, b"a"), kept(&shard)), (1, (1, 2, 0, 6)));
     Ok(())
 }
 
@@ -166,27 +228,22 @@ fn two_forks_alike(rt: HostRuntime) -> Result<(), Fail> {
 fn a_leaf_as_a_value(rt: HostRuntime) -> Result<(), Fail> {
     let alloc = rt.alloc();
     let mut shard = start(alloc, &[], Limits::FULL)?;
-    let mut changes = Changes::new(alloc, 1);
-    set(alloc, &mut changes, b"a", b"a")?;
-    let Ok(Applied { root }) = offer(&mut shard, 1, 0, changes) else {
+    let Ok(Applied { root }) = offer(&mut shard, 1, 0, one_set(alloc, b"a", b"a")?) else {
         return Err(Fail::new("a block was refused"));
     };
-    let leaf = match shard.tries.nodes.load(&root) {
-        Ok(Some(text)) => Text::copy(alloc, text)?,
-        _ => return Err(Fail::new("the leaf is not there")),
+    let Some(leaf) = text_of(alloc, &mut shard, &root)? else {
+        return Err(Fail::new("the leaf is not there"));
     };
-    let mut changes = Changes::new(alloc, 1);
-    set(alloc, &mut changes, b"b", leaf.as_slice())?;
+    let changes = one_set(alloc, b"b", leaf.as_slice())?;
     assert!(rt; offer(&mut shard, 2, 0, changes).is_ok());
     assert_eq!(rt; counted(&shard, leaf.as_slice()), 2);
-    assert!(rt; shard.move_head(&id(2)).is_ok());
+    assert_eq!(rt; move_to(&mut shard, 2), Ok((1, 1)));
     assert_eq!(rt; counted(&shard, leaf.as_slice()), 1);
-    assert_eq!(rt; counted(&shard, b"a"), 0);
-    assert_eq!(rt; kept(&shard), (1, 1, 0, 2));
+    assert_eq!(rt; (counted(&shard, b"a"), kept(&shard)), (0, (1, 1, 0, 2)));
     Ok(())
 }
 
-/// Each refusal in its order leaves what is kept.
+/// Each refusal leaves what is kept.
 #[test]
 fn refused_blocks(rt: HostRuntime) -> Result<(), Fail> {
     let alloc = rt.alloc();
@@ -213,12 +270,25 @@ fn refused_blocks(rt: HostRuntime) -> Result<(), Fail> {
         Err(ApplyError::FullPairs)
     );
     assert_eq!(rt; kept(&shard), (1, 0, 0, 0));
+    Ok(())
+}
+
+/// As many blocks are live as may be.
+#[test]
+fn no_further_block(rt: HostRuntime) -> Result<(), Fail> {
+    let alloc = rt.alloc();
+    let limits = Limits {
+        pairs: 1,
+        blocks: 2,
+        changes: 2,
+    };
+    let mut shard = start(alloc, &[], limits)?;
     assert!(rt; offer(&mut shard, 1, 0, second_deleted(alloc)?).is_ok());
     assert_eq!(rt;
         offer(&mut shard, 2, 0, second_deleted(alloc)?),
         Err(ApplyError::FullBlocks)
     );
-    assert_eq!(rt; shard.move_head(&id(2)), Err(HeadError::NotLive));
+    assert_eq!(rt; move_to(&mut shard, 2), Err(HeadError::NotLive));
     assert_eq!(rt; kept(&shard), (2, 0, 1, 0));
     Ok(())
 }
@@ -228,20 +298,22 @@ fn refused_blocks(rt: HostRuntime) -> Result<(), Fail> {
 fn a_stopped_shard(rt: HostRuntime) -> Result<(), Fail> {
     let alloc = rt.alloc();
     let mut shard = start(alloc, &[1], Limits::FULL)?;
+    let answer = offer(&mut shard, 1, 0, two_set(alloc, b"a", b"b")?);
+    assert_eq!(rt; answer, Err(ApplyError::StoreFault));
     assert_eq!(rt;
-        offer(&mut shard, 1, 0, two_set(alloc, b"a", b"b")?),
-        Err(ApplyError::StoreFault)
-    );
-    assert_eq!(rt;
-        offer(&mut shard, 1, 0, two_set(alloc, b"a", b"b")?),
+        offer(&mut shard, 1, 0, second_deleted(alloc)?),
         Err(ApplyError::Stopped)
     );
-    assert_eq!(rt; shard.move_head(&id(0)), Err(HeadError::Stopped));
-    assert_eq!(rt; shard.root_of(&id(0)), Err(FlatError::Stopped));
-    assert_eq!(rt; shard.same(&id(0), &id(0)), Err(FlatError::Stopped));
-    assert_eq!(rt; shard.flat(&id(0), b"a").is_err(), true);
-    assert_eq!(rt; shard.usage(&id(0)), Err(TrieError::Stopped));
-    assert_eq!(rt; shard.stats(), Err(Stopped));
+    assert_eq!(rt; move_to(&mut shard, 0), Err(HeadError::Stopped));
+    assert_eq!(rt; root_of(&shard, 0), Err(FlatError::Stopped));
+    assert_eq!(rt; same(&shard, 0, 0), Err(FlatError::Stopped));
+    expect_flat(&rt, &shard, 0, Err(FlatError::Stopped));
+    expect_trie(&rt, &mut shard, 0, Err(TrieError::Stopped));
+    assert_eq!(rt; usage(&mut shard, 0), Err(TrieError::Stopped));
+    assert_eq!(rt;
+        (pairs_of(alloc, &shard, 0), kept(&shard)),
+        (None, (0, 0, 0, 0))
+    );
     assert_eq!(rt; shard.into_nodes().distinct(), 0);
     Ok(())
 }
@@ -252,21 +324,18 @@ fn reads(rt: HostRuntime) -> Result<(), Fail> {
     let alloc = rt.alloc();
     let mut shard = start(alloc, &[], Limits::FULL)?;
     assert!(rt; offer(&mut shard, 1, 0, two_set(alloc, b"a", b"b")?).is_ok());
-    assert!(rt; shard.flat(&id(1), b"b") == Ok(Some(b"b")));
-    assert!(rt; shard.flat(&id(0), b"b") == Ok(None));
-    assert_eq!(rt; shard.tries.nodes.loads(), 0);
-    assert!(rt; shard.trie(&id(1), b"b") == Ok(Some(b"b")));
-    assert_eq!(rt; shard.tries.nodes.loads(), 4);
-    assert!(rt; shard.trie(&id(0), b"b") == Ok(None));
-    assert!(rt; shard.trie(&id(2), b"b") == Err(TrieError::NotLive));
-    assert_eq!(rt; shard.tries.nodes.loads(), 4);
-    assert!(rt; shard.usage(&id(1)).is_ok());
-    assert_eq!(rt; shard.usage(&id(0)), Ok(0));
-    assert_eq!(rt; shard.tries.nodes.loads(), 5);
-    match shard.pairs(alloc, &id(1)) {
-        Ok(pairs) => assert_eq!(rt; pairs.len(), 2),
-        Err(_) => return Err(Fail::new("the map is not given")),
-    }
+    expect_flat(&rt, &shard, 1, Ok(Some(b"b")));
+    expect_flat(&rt, &shard, 0, Ok(None));
+    assert_eq!(rt; loaded(&shard), 0);
+    expect_trie(&rt, &mut shard, 1, Ok(Some(b"b")));
+    assert_eq!(rt; loaded(&shard), 4);
+    expect_trie(&rt, &mut shard, 0, Ok(None));
+    expect_trie(&rt, &mut shard, 2, Err(TrieError::NotLive));
+    assert_eq!(rt; loaded(&shard), 4);
+    assert!(rt; usage(&mut shard, 1).is_ok());
+    assert_eq!(rt; usage(&mut shard, 0), Ok(0));
+    assert_eq!(rt; loaded(&shard), 5);
+    assert_eq!(rt; pairs_of(alloc, &shard, 1), Some(2));
     Ok(())
 }
 
@@ -475,7 +544,7 @@ fn expect_counts(
     };
     for place in 0..change.made.len() {
         let name = change.made.at(place).digest;
-        assert_eq!(rt; shard.tries.nodes.count(&name), history.count(&name));
+        assert_eq!(rt; count_of(shard, &name), history.count(&name));
         new = new.saturating_add(!history.is_older(block, &name) as u64);
     }
     Ok(new)
@@ -488,13 +557,12 @@ fn expect_block(
     history: &History,
     block: u8,
 ) -> Result<(), Fail> {
-    let (Ok(root), Some(change)) = (shard.root_of(&id(block)), history.all.get(block as usize))
-    else {
+    let (Ok(root), Some(change)) = (root_of(shard, block), history.all.get(block as usize)) else {
         return Err(Fail::new("a block is not there"));
     };
     assert_eq!(rt; root, change.root);
-    let same = history.row(block) == history.row(history.head);
-    assert_eq!(rt; shard.same(&id(block), &id(history.head)), Ok(same));
+    let alike = history.row(block) == history.row(history.head);
+    assert_eq!(rt; same(shard, block, history.head), Ok(alike));
     Ok(())
 }
 
@@ -510,10 +578,8 @@ fn expect_all(rt: &impl Abort, shard: &Shard<MemNodes>, history: &History) -> Re
             live = live.saturating_add(1);
         }
     }
-    let Ok(stats) = shard.stats() else {
-        return Err(Fail::new("the shard is stopped"));
-    };
-    assert_eq!(rt; (stats.live, stats.distinct), (live, distinct));
+    let (blocks, _, _, texts) = kept(shard);
+    assert_eq!(rt; (blocks, texts), (live, distinct));
     Ok(())
 }
 
@@ -569,7 +635,7 @@ fn expect_history(rt: &impl Abort, alloc: Global, seed: &mut u64) -> Result<(), 
         expect_all(rt, &shard, &history)?;
         let head = drawn_block(seed);
         if draw(seed) % 4 == 0 && history.is_live(head) {
-            assert!(rt; shard.move_head(&id(head)).is_ok());
+            assert!(rt; move_to(&mut shard, head).is_ok());
             history.move_head(head);
             expect_all(rt, &shard, &history)?;
         }
