@@ -1,4 +1,4 @@
--- The output of some lines of a script, by the first of them.
+-- What becomes of some lines of a script, by the first of them.
 use Rattle.std.proofs.Common.{◌≡◌, ◌≢◌, ℕ, ◌+◌, ◌<◌, ◌≤◌, Bool, true, false, cond, List, [], ◌∷◌, length, refl, sym, ap, ◌∙◌, subst, arith, ⊎_elim}
 use mathlib.Core.Path.{fun_ext}
 use Rattle.std.specs.List.{slice_split, onto_first, position_or_len}
@@ -8,8 +8,7 @@ use Rattle.std.proofs.lemmas.List.Elements.{All-from_get_or}
 use Rattle.std.proofs.lemmas.List.Splits.{slice_split_none, slice_split_first}
 use Rattle.std.proofs.lemmas.List.Sums.{fails_before_first}
 use Rattle.script_model.specs.Lines.{pieces, is_line_feed, first_line, first_feed, behind_line, first_fault, line_fault, event_if, read_at}
-use Rattle.output_model.specs.Ends.{Output}
-use Rattle.output_model.specs.Scripts.{Script, after_line, lines_output}
+use Rattle.output_model.specs.Scripts.{Script, Outcome, after_line, at_last, lines_outcome}
 
 -- ---- pieces
 
@@ -44,50 +43,50 @@ first_feed-fed bytes h = rw (lt-ltb (position_or_len is_line_feed bytes) (length
 pub first_feed-unfed : (bytes : List ℕ) → length bytes ≤ position_or_len is_line_feed bytes → first_feed bytes ≡ 0
 first_feed-unfed bytes h = rw (le-ltb (position_or_len is_line_feed bytes) (length bytes) h) refl
 
--- ---- the output of some lines
+-- ---- some lines
 
 -- of a line and others behind it
-next_output : {S : Type 0} (script : Script S) (before number : ℕ) (state : S) (line : List ℕ) (lines : List (List ℕ)) → (first : List ℕ) × (others : List (List ℕ)) × (lines ≡ first ∷ others)
-    → lines_output script before number state (line ∷ lines) ≡ after_line script number (read_at before 1 line) state (λ after. lines_output script (before + length line + 1) (number + 1) after lines)
-unfolding lines_output
-next_output script before number state line lines some =
-    subst (λ (lines : List (List ℕ)). lines_output script before number state (line ∷ lines) ≡ after_line script number (read_at before 1 line) state (λ after. lines_output script (before + length line + 1) (number + 1) after lines)) (sym some.2) refl
+next_outcome : {S : Type 0} (script : Script S) (before number : ℕ) (state : S) (line : List ℕ) (lines : List (List ℕ)) → (first : List ℕ) × (others : List (List ℕ)) × (lines ≡ first ∷ others)
+    → lines_outcome script before number state (line ∷ lines) ≡ after_line script number (read_at before 1 line) state (λ after. lines_outcome script (before + length line + 1) (number + 1) after lines)
+unfolding lines_outcome
+next_outcome script before number state line lines some =
+    subst (λ (lines : List (List ℕ)). lines_outcome script before number state (line ∷ lines) ≡ after_line script number (read_at before 1 line) state (λ after. lines_outcome script (before + length line + 1) (number + 1) after lines)) (sym some.2) refl
 
 -- of the last line
-last_output : {S : Type 0} (script : Script S) (before number : ℕ) (state : S) (line : List ℕ) → length line ≢ 0
-    → lines_output script before number state (line ∷ []) ≡ after_line script number (read_at before 0 line) state (λ after. script.last (number + 1) after)
-unfolding lines_output
-last_output script before number state line some = rw (ne_eqb (length line) 0 some) refl
+last_outcome : {S : Type 0} (script : Script S) (before number : ℕ) (state : S) (line : List ℕ) → length line ≢ 0
+    → lines_outcome script before number state (line ∷ []) ≡ after_line script number (read_at before 0 line) state (λ after. at_last script (number + 1) after)
+unfolding lines_outcome
+last_outcome script before number state line some = rw (ne_eqb (length line) 0 some) refl
 
 -- of no byte
-pub end_output : {S : Type 0} (script : Script S) (before number : ℕ) (state : S) → lines_output script before number state (pieces []) ≡ script.last number state
-unfolding lines_output
-end_output script before number state = refl
+pub end_outcome : {S : Type 0} (script : Script S) (before number : ℕ) (state : S) → lines_outcome script before number state (pieces []) ≡ at_last script number state
+unfolding lines_outcome
+end_outcome script before number state = refl
 
-abbrev line_then : {S : Type 0} → Script S → (before number : ℕ) → S → List ℕ → Output
+abbrev line_then : {S : Type 0} → Script S → (before number : ℕ) → S → List ℕ → Outcome S
 line_then script before number state bytes =
     after_line script number (event_if (first_fault before bytes) (first_line bytes)) state
-    (λ after. lines_output script (before + length (first_line bytes) + first_feed bytes) (number + 1) after (pieces (behind_line bytes)))
+    (λ after. lines_outcome script (before + length (first_line bytes) + first_feed bytes) (number + 1) after (pieces (behind_line bytes)))
 
-fed_output : {S : Type 0} (script : Script S) (before number : ℕ) (state : S) (bytes : List ℕ) → position_or_len is_line_feed bytes < length bytes
-    → lines_output script before number state (pieces bytes) ≡ line_then script before number state bytes
+fed_outcome : {S : Type 0} (script : Script S) (before number : ℕ) (state : S) (bytes : List ℕ) → position_or_len is_line_feed bytes < length bytes
+    → lines_outcome script before number state (pieces bytes) ≡ line_then script before number state bytes
 unfolding read_at
-fed_output script before number state bytes h =
-    ap (lines_output script before number state) (pieces-fed bytes h)
-    ∙ next_output script before number state (first_line bytes) (pieces (behind_line bytes)) (split_some is_line_feed (behind_line bytes))
+fed_outcome script before number state bytes h =
+    ap (lines_outcome script before number state) (pieces-fed bytes h)
+    ∙ next_outcome script before number state (first_line bytes) (pieces (behind_line bytes)) (split_some is_line_feed (behind_line bytes))
     ∙ rw (first_feed-fed bytes h) refl
 
-unfed_output : {S : Type 0} (script : Script S) (before number : ℕ) (state : S) (bytes : List ℕ) → length bytes ≢ 0 → length bytes ≤ position_or_len is_line_feed bytes
-    → lines_output script before number state (pieces bytes) ≡ line_then script before number state bytes
+unfed_outcome : {S : Type 0} (script : Script S) (before number : ℕ) (state : S) (bytes : List ℕ) → length bytes ≢ 0 → length bytes ≤ position_or_len is_line_feed bytes
+    → lines_outcome script before number state (pieces bytes) ≡ line_then script before number state bytes
 unfolding read_at
-unfed_output script before number state bytes some h =
-    ap (lines_output script before number state) (pieces-unfed bytes h)
-    ∙ last_output script before number state bytes some
+unfed_outcome script before number state bytes some h =
+    ap (lines_outcome script before number state) (pieces-unfed bytes h)
+    ∙ last_outcome script before number state bytes some
     ∙ rw (first_feed-unfed bytes h, first_line-unfed bytes h, behind_line-unfed bytes h)
-    (ap (after_line script number (event_if (line_fault before (length bytes) 0) bytes) state) (fun_ext (λ after. sym (end_output script (before + length bytes + 0) (number + 1) after))))
+    (ap (after_line script number (event_if (line_fault before (length bytes) 0) bytes) state) (fun_ext (λ after. sym (end_outcome script (before + length bytes + 0) (number + 1) after))))
 
 -- of some bytes: by the first line of them
-pub first_output : {S : Type 0} (script : Script S) (before number : ℕ) (state : S) (bytes : List ℕ) → length bytes ≢ 0
-    → lines_output script before number state (pieces bytes) ≡ line_then script before number state bytes
-first_output script before number state bytes some =
-    ⊎_elim (λ h. fed_output script before number state bytes h) (λ h. unfed_output script before number state bytes some h) (cases_lt (position_or_len is_line_feed bytes) (length bytes))
+pub first_outcome : {S : Type 0} (script : Script S) (before number : ℕ) (state : S) (bytes : List ℕ) → length bytes ≢ 0
+    → lines_outcome script before number state (pieces bytes) ≡ line_then script before number state bytes
+first_outcome script before number state bytes some =
+    ⊎_elim (λ h. fed_outcome script before number state bytes h) (λ h. unfed_outcome script before number state bytes some h) (cases_lt (position_or_len is_line_feed bytes) (length bytes))

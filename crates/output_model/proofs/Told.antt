@@ -5,37 +5,44 @@ use Rattle.std.specs.Option.{IsSomeAnd}
 use Rattle.std.specs.Str.{bytes_eq}
 use Rattle.std.specs.FinMap.{empty, insert, get, get-empty, get-insert, contains_key, len, len-empty, len-insert}
 use Rattle.std.specs.Cmp.Lexicographic.{slice_cmp, nat_list_cmp_total}
-use Rattle.std.proofs.lemmas.Bool.{and_parts, leb-false}
+use Rattle.std.proofs.lemmas.Bool.{leb-false}
 use Rattle.std.proofs.lemmas.Map.Text.{is_eq-slice_cmp}
 use Rattle.script_model.specs.Lines as line
 use Rattle.script_model.specs.Lines.{Event}
 use Rattle.trie_model.specs.State.{State}
 use Rattle.batch_model.specs.Changes.{Changes}
 use Rattle.fork_model.specs.Trees.{Header, BlockFault, is_live, block_fault}
-use Rattle.fork_model.specs.States.{ForkState, tree_of_blocks, state_over, with_block, with_block_unless, after_offer, head_moved, after_head}
+use Rattle.fork_model.specs.States.{ForkState, tree_of_blocks, state_at, with_block_unless, after_offer, head_moved, after_head}
+use Rattle.count_model.specs.BlockEnds.{BlockEnd, accepted, block_end, end_over}
 use Rattle.output_model.specs.Ends.{RunLimits, syntax_at}
-use Rattle.output_model.specs.Scripts.{Step, goes_on, ends}
-use Rattle.output_model.specs.Histories.{History, OpenBlock, outside, inside, changed, offered, refused_over, history_step, step_by, block_refused, block_ok, block_not, head_ok, head_not}
+use Rattle.output_model.specs.Scripts.{goes_on, ends}
+use Rattle.output_model.specs.Histories.{History, OpenBlock, outside, inside, changed, offered, fault_name, history_step, step_by, block_ok, block_not, head_ok, head_not}
 use Rattle.output_model.specs.Apply.{apply_script}
 use Rattle.output_model.specs.Laws.{IfGoesOn, state_if, state_after, keeps_blocks, tells_block, change_of, later, last_change, IsTold}
 
 -- ---- blocks and moves
 
-faultless : (limits : RunLimits) (fault : Option BlockFault) (state : Option State) → refused_over limits fault state ≡ None → fault ≡ None
-faultless limits None state e = refl
-faultless limits (Some fault) state e = absurd cc
+-- an accepted block has no fault, and a block with one is refused by it
+faultless : (most : ℕ) (forks : ForkState) (changes : Changes) (fault : Option BlockFault) (prev : Option State) (state : State) → end_over most forks changes fault prev ≡ accepted state → fault ≡ None
+faultless most forks changes None prev state e = refl
+faultless most forks changes (Some fault) prev state e = absurd cc
 
-pub step-accepted : (limits : RunLimits) (number : ℕ) (forks : ForkState) (header : Header) (changes : Changes) → block_refused limits forks header changes ≡ None
-    → history_step limits number (inside forks header changes) line.block_end ≡ goes_on (block_ok forks header changes) (outside (after_offer limits.blocks forks header changes))
-unfolding history_step block_refused after_offer
-step-accepted limits number forks header changes e =
-    let fault : block_fault limits.blocks (tree_of_blocks forks) header ≡ None = faultless limits (block_fault limits.blocks (tree_of_blocks forks) header) (state_over forks header.prev changes) e in
-    ap (λ name. offered name forks header changes) e ∙ ap (λ f. goes_on (block_ok forks header changes) (outside (with_block_unless f forks header changes))) (sym fault)
+pub step-accepted : (limits : RunLimits) (number : ℕ) (forks : ForkState) (header : Header) (changes : Changes) (state : State) → block_end limits.pairs limits.blocks forks header changes ≡ accepted state
+    → history_step limits number (inside forks header changes) line.block_end ≡ goes_on (block_ok header state) (outside (after_offer limits.blocks forks header changes))
+unfolding history_step block_end after_offer
+step-accepted limits number forks header changes state e =
+    let fault : block_fault limits.blocks (tree_of_blocks forks) header ≡ None = faultless limits.pairs forks changes (block_fault limits.blocks (tree_of_blocks forks) header) (state_at forks header.prev) state e in
+    ap (λ (end : BlockEnd). offered end forks header changes) e ∙ ap (λ f. goes_on (block_ok header state) (outside (with_block_unless f forks header changes))) (sym fault)
 
-pub step-refused : (limits : RunLimits) (number : ℕ) (forks : ForkState) (header : Header) (changes : Changes) (name : List ℕ) → block_refused limits forks header changes ≡ Some name
-    → history_step limits number (inside forks header changes) line.block_end ≡ goes_on (block_not header name) (outside forks)
+pub step-refused : (limits : RunLimits) (number : ℕ) (forks : ForkState) (header : Header) (changes : Changes) (fault : BlockFault) → block_fault limits.blocks (tree_of_blocks forks) header ≡ Some fault
+    → history_step limits number (inside forks header changes) line.block_end ≡ goes_on (block_not header (fault_name fault)) (outside forks)
+unfolding history_step block_end
+step-refused limits number forks header changes fault e = ap (λ f. offered (end_over limits.pairs forks changes f (state_at forks header.prev)) forks header changes) e
+
+pub step-ended : (limits : RunLimits) (number : ℕ) (forks : ForkState) (header : Header) (changes : Changes) (end : BlockEnd) → block_end limits.pairs limits.blocks forks header changes ≡ end
+    → history_step limits number (inside forks header changes) line.block_end ≡ offered end forks header changes
 unfolding history_step
-step-refused limits number forks header changes name e = ap (λ n. offered n forks header changes) e
+step-ended limits number forks header changes end e = ap (λ (b : BlockEnd). offered b forks header changes) e
 
 moved_by : (b : Bool) (forks : ForkState) (id : List ℕ)
     → IfGoesOn (cond b (goes_on (head_ok forks id) (outside (head_moved forks id))) (goes_on (head_not id) (outside forks))) (λ after. after ≡ outside (cond b (head_moved forks id) forks))
@@ -65,6 +72,10 @@ stays_by limits number forks None (line.delete key) e = tt
 stays_by limits number forks None line.block_end e = absurd cc
 stays_by limits number forks None (line.head id) e = absurd cc
 stays_by limits number forks None (line.flat id key) e = refl
+stays_by limits number forks None (line.trie id key) e = refl
+stays_by limits number forks None (line.same a b) e = refl
+stays_by limits number forks None (line.usage id) e = refl
+stays_by limits number forks None line.stats e = refl
 stays_by limits number forks (Some opened) line.nothing e = refl
 stays_by limits number forks (Some opened) (line.block id prev height) e = tt
 stays_by limits number forks (Some opened) (line.set key value) e = changed_stays (leb limits.changes (len opened.changes) && not (contains_key opened.changes key)) number forks opened.header (insert opened.changes key (Some value))
@@ -72,6 +83,10 @@ stays_by limits number forks (Some opened) (line.delete key) e = changed_stays (
 stays_by limits number forks (Some opened) line.block_end e = absurd cc
 stays_by limits number forks (Some opened) (line.head id) e = absurd cc
 stays_by limits number forks (Some opened) (line.flat id key) e = tt
+stays_by limits number forks (Some opened) (line.trie id key) e = tt
+stays_by limits number forks (Some opened) (line.same a b) e = tt
+stays_by limits number forks (Some opened) (line.usage id) e = tt
+stays_by limits number forks (Some opened) line.stats e = tt
 
 pub step-stays : (limits : RunLimits) (number : ℕ) (history : History) (asked : Event) → keeps_blocks asked ≡ true → IfGoesOn (history_step limits number history asked) (λ after. after.forks ≡ history.forks)
 unfolding history_step
@@ -154,6 +169,10 @@ tells limits forks header (line.block id prev height ∷ events) number changes 
 tells limits forks header (line.block_end ∷ events) number changes e few = absurd cc
 tells limits forks header (line.head id ∷ events) number changes e few = absurd cc
 tells limits forks header (line.flat id key ∷ events) number changes e few = absurd cc
+tells limits forks header (line.trie id key ∷ events) number changes e few = absurd cc
+tells limits forks header (line.same a b ∷ events) number changes e few = absurd cc
+tells limits forks header (line.usage id ∷ events) number changes e few = absurd cc
+tells limits forks header (line.stats ∷ events) number changes e few = absurd cc
 
 IsTold-all : (limits : RunLimits) (forks : ForkState) (header : Header) (events : List Event) (history : History) → Tells limits forks header empty events history → IsTold limits forks header events history
 IsTold-all limits forks header events history t = record { forks_stay = t.forks_stay; opened = by_opened history.opened t.told }

@@ -1,14 +1,16 @@
 -- How a run ends and what it has written then. Want of memory and faults of the outside are no part of it.
 use Rattle.std.specs.Prelude.{ℕ, List, [], ◌∷◌, ◌++◌, codes}
 use Rattle.std.specs.Fmt.{decimal}
+use Rattle.hex.specs.Hex.{encode_lower}
 use Rattle.script_model.specs.Lines.{line_feed}
 
--- All was written; the words are no command; a line is none of a script or stands where it may not; what was asked for is refused by name.
+-- All was written; the words are no command; a line is none of a script or stands where it may not; what was asked for is refused by name; texts of a block clash.
 pub data Ending : Type 0 where
   done : Ending
   usage : Ending
   syntax : Ending
   refused : Ending
+  clash : Ending
 
 pub record Output : Type 0 where
   pub bytes : List ℕ
@@ -34,3 +36,11 @@ syntax_at number = record { bytes = line_of (codes "syntax " ++ decimal number);
 -- the state would have more pairs than it may
 abbrev pub full_pairs : Output
 full_pairs = record { bytes = line_of (codes "refused full-pairs"); ending = refused }
+
+-- a block is asked for that is not live
+abbrev pub not_live : Output
+not_live = record { bytes = line_of (codes "refused not-live"); ending = refused }
+
+-- texts of a block clash, with this digest
+abbrev pub clash_at : (digest : List ℕ) → Output
+clash_at digest = record { bytes = line_of (codes "clash " ++ encode_lower digest); ending = clash }

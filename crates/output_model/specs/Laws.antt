@@ -36,6 +36,10 @@ keeps_blocks (line.delete key) = true
 keeps_blocks line.block_end = false
 keeps_blocks (line.head id) = false
 keeps_blocks (line.flat id key) = true
+keeps_blocks (line.trie id key) = true
+keeps_blocks (line.same a b) = true
+keeps_blocks (line.usage id) = true
+keeps_blocks line.stats = true
 
 -- ---- what a block is told
 
@@ -48,6 +52,10 @@ tells_block (line.delete key) = true
 tells_block line.block_end = false
 tells_block (line.head id) = false
 tells_block (line.flat id key) = false
+tells_block (line.trie id key) = false
+tells_block (line.same a b) = false
+tells_block (line.usage id) = false
+tells_block line.stats = false
 
 -- what an event makes of a key, if it changes that key
 abbrev pub change_of : (key : List ℕ) → Event → Option (Option (List ℕ))
@@ -58,6 +66,10 @@ change_of key (line.delete other) = if bytes_eq key other then Some None else No
 change_of key line.block_end = None
 change_of key (line.head id) = None
 change_of key (line.flat id other) = None
+change_of key (line.trie id other) = None
+change_of key (line.same a b) = None
+change_of key (line.usage id) = None
+change_of key line.stats = None
 
 -- the later of two, if there is one
 abbrev pub later : {A : Type 0} → Option A → Option A → Option A

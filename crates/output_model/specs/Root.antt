@@ -17,7 +17,7 @@ root_line state = line_of (codes "root " ++ encode_lower (trie.root state) ++ co
 abbrev pub root_done : State → Output
 root_done state = record { bytes = root_line state; ending = done }
 
--- A pair is laid over, where its key is not new or there is room for one more. It has no reply. Lines of blocks are refused.
+-- A pair is laid over, where its key is not new or there is room for one more. It has no reply. Lines of blocks are refused. Nothing is loaded.
 abbrev pub root_step : RunLimits → (number : ℕ) → State → Event → Step State
 root_step limits number state line.nothing = goes_on [] state
 root_step limits number state (line.set key value) =
@@ -27,9 +27,13 @@ root_step limits number state (line.delete key) = ends (syntax_at number)
 root_step limits number state line.block_end = ends (syntax_at number)
 root_step limits number state (line.head id) = ends (syntax_at number)
 root_step limits number state (line.flat id key) = ends (syntax_at number)
+root_step limits number state (line.trie id key) = ends (syntax_at number)
+root_step limits number state (line.same a b) = ends (syntax_at number)
+root_step limits number state (line.usage id) = ends (syntax_at number)
+root_step limits number state line.stats = ends (syntax_at number)
 
 abbrev pub root_script : RunLimits → Script State
-root_script limits = record { begin = empty; step = root_step limits; last = λ number. root_done }
+root_script limits = record { begin = empty; step = root_step limits; last = λ number. root_done; step_loads = λ state asked. 0; last_loads = λ state. 0 }
 
 abbrev pub root_output : RunLimits → List ℕ → Output
 root_output limits input = script_output (root_script limits) input

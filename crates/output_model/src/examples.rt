@@ -2,15 +2,20 @@
 
 ghost use Rattle.std.specs.Prelude.{◌≡◌, ℕ, List, [], ◌∷◌, ◌++◌, codes};
 ghost use Rattle.script_model.specs.Lines.{line_feed};
-ghost use Rattle.output_model.specs.Ends.{RunLimits, bad_command, syntax_at, line_of, done, syntax};
-ghost use Rattle.output_model.specs.Output.{output_of};
+ghost use Rattle.output_model.specs.Ends.{RunLimits, bad_command, syntax_at, line_of, done, syntax, refused};
+ghost use Rattle.output_model.specs.Output.{output_of, outcome_of};
 ghost use Rattle.output_model.specs.Examples.{few, one_id, two_id, begins_one, ends_one, one_accepted};
+ghost use Rattle.fork_model.specs.Examples.{id_of};
+ghost use Rattle.fork_model.specs.States.{after_head};
+ghost use Rattle.count_model.specs.Examples.{one_line, two_forks, set_two, set_alike};
+ghost use Rattle.output_model.specs.Readings.{flat_line, trie_line, same_line, usage_line, stats_line};
 
 /// No word, another word, and a second word are no command, whatever the input is.
 pub fn bad_words()
     ensures none { (limits : RunLimits) (input : List ℕ) → output_of limits [] input ≡ bad_command }
     ensures other { (limits : RunLimits) (input : List ℕ) → output_of limits (codes "Root" ∷ []) input ≡ bad_command }
     ensures second_apply { (limits : RunLimits) (input : List ℕ) → output_of limits (codes "apply" ∷ [] ∷ []) input ≡ bad_command }
+    ensures get_alone { (limits : RunLimits) (input : List ℕ) → output_of limits (codes "get" ∷ one_id ∷ []) input ≡ bad_command }
     ensures second { (limits : RunLimits) (input : List ℕ) → output_of limits (codes "root" ∷ [] ∷ []) input ≡ bad_command }
 {}
 
@@ -51,4 +56,47 @@ pub fn misplaced_lines()
     ensures behind { output_of few (codes "apply" ∷ []) (begins_one ++ ends_one ++ codes "set 61 61")
         ≡ record { bytes = one_accepted ++ line_of (codes "syntax 3"); ending = syntax } }
     ensures open { output_of few (codes "apply" ∷ []) begins_one ≡ syntax_at 2 }
+{}
+
+/// Two keys are set, and one of them is deleted over that: what is read of both blocks, and behind a
+/// move of the head to the second. The numbers were computed outside of this project.
+pub fn readings_of_one_line()
+    ensures usage { usage_line (one_line set_two) (id_of 1) ≡ line_of (codes "usage 308") }
+    ensures usage_behind { usage_line (one_line set_two) (id_of 2) ≡ line_of (codes "usage 105") }
+    ensures usage_start { usage_line (one_line set_two) (id_of 0) ≡ line_of (codes "usage 0") }
+    ensures usage_not_live { usage_line (one_line set_two) (id_of 3) ≡ line_of (codes "usage refused not-live") }
+    ensures deleted { trie_line (one_line set_two) (id_of 2) (0x62 ∷ []) ≡ line_of (codes "trie none") }
+    ensures kept { trie_line (one_line set_two) (id_of 2) (0x61 ∷ []) ≡ line_of (codes "trie 61") }
+    ensures flat { flat_line (one_line set_two) (id_of 2) (0x62 ∷ []) ≡ line_of (codes "flat none") }
+    ensures not_live { trie_line (one_line set_two) (id_of 3) (0x61 ∷ []) ≡ line_of (codes "trie refused not-live") }
+    ensures stats { stats_line (one_line set_two) ≡ line_of (codes "stats 3 0 3 7") }
+    ensures stats_behind { stats_line (after_head (one_line set_two) (id_of 2)) ≡ line_of (codes "stats 1 1 0 2") }
+    ensures alike { stats_line (one_line set_alike) ≡ line_of (codes "stats 3 0 3 5") }
+    ensures alike_behind { stats_line (after_head (one_line set_alike) (id_of 2)) ≡ line_of (codes "stats 1 1 0 2") }
+{}
+
+/// Two forks with one state, and behind a move of the head to one of them.
+pub fn readings_of_two_forks()
+    ensures same { same_line two_forks (id_of 1) (id_of 2) ≡ line_of (codes "same yes") }
+    ensures start { same_line two_forks (id_of 1) (id_of 0) ≡ line_of (codes "same no") }
+    ensures not_live { same_line two_forks (id_of 3) (id_of 1) ≡ line_of (codes "same refused not-live") }
+    ensures stats { stats_line two_forks ≡ line_of (codes "stats 3 0 4 6") }
+    ensures stats_behind { stats_line (after_head two_forks (id_of 1)) ≡ line_of (codes "stats 1 2 0 6") }
+{}
+
+/// The loads of a history: nothing where no block is asked for, and a run without a command has none.
+pub fn nothing_loaded()
+    ensures no_command { (limits : RunLimits) (input : List ℕ) → (outcome_of limits [] input).loaded ≡ 0 }
+    ensures root { (limits : RunLimits) (input : List ℕ) → (outcome_of limits (codes "root" ∷ []) input).loaded ≡ 0 }
+    ensures no_input { (limits : RunLimits) → (outcome_of limits (codes "apply" ∷ []) []).loaded ≡ 0 }
+{}
+
+/// `get` behind a block without changes: no reply to the block, and then both lines; or a refusal, where
+/// the block is not live.
+pub fn a_key_behind_a_block()
+    ensures live { output_of few (codes "get" ∷ one_id ∷ codes "61" ∷ []) (begins_one ++ ends_one ++ codes "stats")
+        ≡ record { bytes = line_of (codes "flat none") ++ line_of (codes "trie none"); ending = done } }
+    ensures not_live { output_of few (codes "get" ∷ two_id ∷ codes "61" ∷ []) (begins_one ++ ends_one)
+        ≡ record { bytes = line_of (codes "refused not-live"); ending = refused } }
+    ensures inside { output_of few (codes "get" ∷ one_id ∷ codes "61" ∷ []) (begins_one ++ codes "stats") ≡ syntax_at 2 }
 {}

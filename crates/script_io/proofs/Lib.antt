@@ -6,3 +6,4 @@ pub mod IdText
 pub mod Numbers
 pub mod Events
 pub mod FirstLine
+pub mod Commands

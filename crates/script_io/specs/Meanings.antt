@@ -3,15 +3,16 @@ use Rattle.std.specs.Prelude.{◌≡◌, Option, Some, None, IsSome, Result, Ok,
 use Rattle.script_model.specs.Words as words
 use Rattle.script_model.specs.Lines as lines
 use Rattle.script_io.specs.declared.command.Command.{Command}
-use Rattle.script_io.specs.declared.command.Command.TheVariants.{Root, Apply}
+use Rattle.script_io.specs.declared.command.Command.TheVariants.{Root, Apply, Get}
 use Rattle.script_io.specs.declared.event.Event.{Event}
-use Rattle.script_io.specs.declared.event.Event.TheVariants.{Nothing, Open, Set, Del, End, Head, Flat}
+use Rattle.script_io.specs.declared.event.Event.TheVariants.{Nothing, Open, Set, Del, End, Head, Flat, Trie, Same, Usage, Stats}
 use Rattle.script_io.specs.declared.event.EventError.{EventError}
 use Rattle.script_io.specs.declared.event.EventError.TheVariants.{Bad, NoMemory}
 
 abbrev pub command : Command → words.Command
 command Root = words.root
 command Apply = words.apply
+command (Get id key) = words.get id.0 key
 
 abbrev pub event : Event → lines.Event
 event Nothing = lines.nothing
@@ -21,6 +22,10 @@ event (Del key) = lines.delete key
 event End = lines.block_end
 event (Head id) = lines.head id.0
 event (Flat id key) = lines.flat id.0 key
+event (Trie id key) = lines.trie id.0 key
+event (Same a b) = lines.same a.0 b.0
+event (Usage id) = lines.usage id.0
+event Stats = lines.stats
 
 -- What is read of a text, seen by view, is what the text means. It is refused as bad exactly where it means nothing, and for want of memory only where it means something.
 abbrev pub IsRead : {X Y : Type 0} → (X → Y) → Option Y → Result X EventError → Type 0

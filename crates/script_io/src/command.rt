@@ -1,8 +1,14 @@
 ghost use Rattle.std.specs.Prelude.{◌≡◌, Some, None, IsSome, IfOk};
-ghost use Rattle.script_model.specs.Words.{command_of};
+ghost use Rattle.script_model.specs.Bounds.{IsCommanded};
+ghost use Rattle.script_model.specs.Lines.{both};
+ghost use Rattle.script_model.specs.Spellings.{id_of, key_of};
+ghost use Rattle.script_model.specs.Words.{command_of, get};
 ghost use Rattle.script_io.specs.Meanings.{command};
 
-use base_core::Text;
+use crate::event::EventError;
+use crate::event_words::read_key;
+use crate::ids::read_id;
+use base_core::{Digest, Text};
 use std::alloc::Global;
 use thiserror::Error;
 
@@ -13,6 +19,8 @@ pub enum Command {
     Root,
     /// What becomes of a history of blocks, with a reply to each block, head move and reading.
     Apply,
+    /// What a key has at a block, behind a history of blocks.
+    Get { id: Digest, key: Text },
 }
 
 #[derive(Debug, Drop, Error)]
@@ -28,10 +36,30 @@ pub fn read_command(alloc: Global, words: &[Text]) -> Result<Command, CommandErr
     ensures ok { IfOk result (λ found. command_of words.now ≡ Some (command found)) }
     ensures bad { result ≡ Err CommandError.Bad → command_of words.now ≡ None }
     ensures no_memory { result ≡ Err CommandError.NoMemory → IsSome (command_of words.now) }
+    ensures within { IfOk result (λ found. IsCommanded (command found)) }
 {
     match words {
         [word] if word.as_slice() == b"root".as_slice() => Ok(Command::Root),
         [word] if word.as_slice() == b"apply".as_slice() => Ok(Command::Apply),
+        [word, id, key] if word.as_slice() == b"get".as_slice() => {
+            read_get(alloc, id.as_slice(), key.as_slice())
+        }
         _ => Err(CommandError::Bad),
+    }
+}
+
+/// The command that asks for a key at a block.
+fn read_get(alloc: Global, id: &[u8], key: &[u8]) -> Result<Command, CommandError>
+    ensures ok { IfOk result (λ found. both get (id_of id.now) (key_of key.now) ≡ Some (command found)) }
+    ensures bad { result ≡ Err CommandError.Bad → both get (id_of id.now) (key_of key.now) ≡ None }
+    ensures no_memory { result ≡ Err CommandError.NoMemory → IsSome (both get (id_of id.now) (key_of key.now)) }
+{
+    let Some(id) = read_id(id) else {
+        return Err(CommandError::Bad);
+    };
+    match read_key(alloc, key) {
+        Ok(key) => Ok(Command::Get { id, key }),
+        Err(EventError::Bad) => Err(CommandError::Bad),
+        Err(EventError::NoMemory) => Err(CommandError::NoMemory),
     }
 }

@@ -35,11 +35,27 @@ pub enum Event {
     Head {
         id: Digest,
     },
-    /// Reads a key at a block.
+    /// Reads a key at a block, in flat storage.
     Flat {
         id: Digest,
         key: Text,
     },
+    /// Reads a key at a block, in its trie.
+    Trie {
+        id: Digest,
+        key: Text,
+    },
+    /// Asks whether two blocks have one state.
+    Same {
+        a: Digest,
+        b: Digest,
+    },
+    /// Asks for the usage of a block's state.
+    Usage {
+        id: Digest,
+    },
+    /// Asks how much is kept.
+    Stats,
 }
 
 #[derive(Debug, Drop, Error)]

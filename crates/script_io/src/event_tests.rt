@@ -56,6 +56,13 @@ fn asking(alloc: Global, event: &Event) -> Result<Buffer, Fault> {
             put_hex(&mut line, &id.0)?;
         }
         Event::Flat { id, key } => put_words(&mut line, b"flat ", id, key.as_slice())?,
+        Event::Trie { id, key } => put_words(&mut line, b"trie ", id, key.as_slice())?,
+        Event::Same { a, b } => put_words(&mut line, b"same ", a, &b.0)?,
+        Event::Usage { id } => {
+            put(&mut line, b"usage ")?;
+            put_hex(&mut line, &id.0)?;
+        }
+        Event::Stats => put(&mut line, b"stats")?,
     }
     Ok(line)
 }
@@ -196,6 +203,44 @@ fn bad_heads_and_readings(rt: HostRuntime) -> Result<(), Fail> {
         &[b"flat", LOWER, b""],
         &[b"flat", b"61", LOWER],
         &[b"flat", LOWER, b"61", b"62"],
+    ];
+    for words in table {
+        expect_bad_words(&rt, alloc, words)?;
+    }
+    Ok(())
+}
+
+#[test]
+fn readings_of_tries(rt: HostRuntime) -> Result<(), Fail> {
+    let alloc = rt.alloc();
+    expect_words(
+        &rt,
+        alloc,
+        &[b"trie", UPPER, b"4F"],
+        &[b"trie", LOWER, b"4f"],
+    )?;
+    expect_words(&rt, alloc, &[b"same", UPPER, ZERO], &[b"same", LOWER, ZERO])?;
+    expect_words(&rt, alloc, &[b"usage", UPPER], &[b"usage", LOWER])?;
+    expect_event(&rt, alloc, b"stats", b"stats")
+}
+
+#[test]
+fn bad_readings_of_tries(rt: HostRuntime) -> Result<(), Fail> {
+    let alloc = rt.alloc();
+    let table: [&[&[u8]]; 13] = [
+        &[b"trie", LOWER],
+        &[b"trie", LOWER, b"6"],
+        &[b"trie", b"61", LOWER],
+        &[b"trie", LOWER, b"61", b"62"],
+        &[b"same", LOWER],
+        &[b"same", LOWER, b"61"],
+        &[b"same", &ZERO[..63], LOWER],
+        &[b"same", LOWER, ZERO, LOWER],
+        &[b"usage"],
+        &[b"usage", &LOWER[..62]],
+        &[b"usage", LOWER, b"61"],
+        &[b"stats", b""],
+        &[b"stats\r"],
     ];
     for words in table {
         expect_bad_words(&rt, alloc, words)?;

@@ -1,7 +1,7 @@
 ghost use Rattle.std.specs.Prelude.{◌≡◌};
 ghost use Rattle.std.specs.Option.{option_map};
-ghost use Rattle.script_model.specs.Lines.{set, delete, flat, both, event_of_one, event_of_two, event_of_three, event_of_four};
-ghost use Rattle.script_model.specs.Spellings.{key_of, value_of};
+ghost use Rattle.script_model.specs.Lines.{set, delete, flat, trie, same, both, event_of_one, event_of_two, event_of_three, event_of_four};
+ghost use Rattle.script_model.specs.Spellings.{id_of, key_of, value_of};
 ghost use Rattle.script_io.specs.Meanings.{IsRead, event};
 
 use crate::event::{Event, EventError};
@@ -17,6 +17,8 @@ pub(crate) fn read_one(word: &[u8]) -> Option<Event>
 {
     if word == b"end".as_slice() {
         Some(Event::End)
+    } else if word == b"stats".as_slice() {
+        Some(Event::Stats)
     } else {
         None
     }
@@ -31,6 +33,11 @@ pub(crate) fn read_two(alloc: Global, word: &[u8], a: &[u8]) -> Result<Event, Ev
     } else if word == b"head".as_slice() {
         match read_id(a) {
             Some(id) => Ok(Event::Head { id }),
+            None => Err(EventError::Bad),
+        }
+    } else if word == b"usage".as_slice() {
+        match read_id(a) {
+            Some(id) => Ok(Event::Usage { id }),
             None => Err(EventError::Bad),
         }
     } else {
@@ -54,6 +61,13 @@ pub(crate) fn read_three(
             Some(id) => read_flat(alloc, id, b),
             None => Err(EventError::Bad),
         }
+    } else if word == b"trie".as_slice() {
+        match read_id(a) {
+            Some(id) => read_trie(alloc, id, b),
+            None => Err(EventError::Bad),
+        }
+    } else if word == b"same".as_slice() {
+        read_same(a, b).ok_or(EventError::Bad)
     } else {
         Err(EventError::Bad)
     }
@@ -90,6 +104,24 @@ fn read_flat(alloc: Global, id: Digest, key: &[u8]) -> Result<Event, EventError>
     })
 }
 
+fn read_trie(alloc: Global, id: Digest, key: &[u8]) -> Result<Event, EventError>
+    ensures { IsRead event (option_map (trie id.0) (key_of key.now)) result }
+{
+    Ok(Event::Trie {
+        id,
+        key: read_key(alloc, key)?,
+    })
+}
+
+fn read_same(a: &[u8], b: &[u8]) -> Option<Event>
+    ensures { option_map event result ≡ both same (id_of a.now) (id_of b.now) }
+{
+    Some(Event::Same {
+        a: read_id(a)?,
+        b: read_id(b)?,
+    })
+}
+
 /// The pair that two texts write. A value that is none is bad also where the key found no memory.
 fn read_set(alloc: Global, key: &[u8], value: &[u8]) -> Result<Event, EventError>
     ensures { IsRead event (both set (key_of key.now) (value_of value.now)) result }
@@ -106,7 +138,7 @@ fn read_set(alloc: Global, key: &[u8], value: &[u8]) -> Result<Event, EventError
     }
 }
 
-fn read_key(alloc: Global, text: &[u8]) -> Result<Text, EventError>
+pub(crate) fn read_key(alloc: Global, text: &[u8]) -> Result<Text, EventError>
     ensures { IsRead (λ key. key) (key_of text.now) result }
 {
     read_hex(alloc, text, LONGEST_KEY)

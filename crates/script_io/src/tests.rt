@@ -102,6 +102,7 @@ fn expect_command(
     match read_command(alloc, texts.as_slice()) {
         Ok(Command::Root) => assert_eq!(rt; want, b"root".as_slice(), "{words:?}"),
         Ok(Command::Apply) => assert_eq!(rt; want, b"apply".as_slice(), "{words:?}"),
+        Ok(Command::Get { .. }) => assert_eq!(rt; want, b"get".as_slice(), "{words:?}"),
         Err(error) => {
             assert!(rt; matches!(error, CommandError::Bad), "{words:?}");
             assert!(rt; want.is_empty(), "{words:?}");
@@ -110,10 +111,12 @@ fn expect_command(
     Ok(())
 }
 
+const ID: &[u8; 64] = b"0123456789ABCDEF0123456789abcdef0123456789abcdef0123456789abcdef";
+
 #[test]
 fn commands(rt: HostRuntime) -> Result<(), Fail> {
     let alloc = rt.alloc();
-    let table: [(&[&[u8]], &[u8]); 9] = [
+    let table: [(&[&[u8]], &[u8]); 14] = [
         (&[b"root"], b"root"),
         (&[b"apply"], b"apply"),
         (&[], b""),
@@ -123,6 +126,11 @@ fn commands(rt: HostRuntime) -> Result<(), Fail> {
         (&[b"appl"], b""),
         (&[b"root", b""], b""),
         (&[b"apply", b"root"], b""),
+        (&[b"get", ID, b"61"], b"get"),
+        (&[b"get", ID], b""),
+        (&[b"get", ID, b"6"], b""),
+        (&[b"get", b"61", ID], b""),
+        (&[b"get", ID, b"61", b""], b""),
     ];
     for (words, want) in table {
         expect_command(&rt, alloc, words, want)?;

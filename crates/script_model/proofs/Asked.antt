@@ -12,8 +12,9 @@ use Rattle.hex.proofs.HexLemmas.{decode_of-ok}
 use Rattle.byte_model.specs.Nibbles.{AreBytes}
 use Rattle.byte_model.specs.Node.{longest_value}
 use Rattle.trie_model.specs.State.{IsPair, longest_key}
-use Rattle.script_model.specs.Lines.{Event, nothing, block, block_end, set, delete, head, flat, both, all_three, comment, event_of, event_of_words, event_of_one, event_of_two, event_of_three, event_of_four, is_hash, is_carriage_return, is_space}
-use Rattle.script_model.specs.Bounds.{IsId, IsKey, IsAsked}
+use Rattle.script_model.specs.Lines.{Event, nothing, block, block_end, set, delete, head, flat, trie, same, usage, stats, both, all_three, event_of, event_of_words, is_hash, is_carriage_return, is_space}
+use Rattle.script_model.specs.Words.{Command, root, apply, get, command_of}
+use Rattle.script_model.specs.Bounds.{IsId, IsKey, IsAsked, IsCommanded}
 use Rattle.script_model.specs.Spellings.{hex_bytes, at_most, key_of, value_of, id_of, number_of, is_decimal_digit, most_digits, no_bytes}
 use Rattle.std.specs.Str.Parse.{digits_value}
 use Rattle.byte_model.specs.Node.{digest_width}
@@ -95,40 +96,44 @@ number-within text n e = by_tests (leb 1 (length text) && leb (length text) most
 
 -- ---- by words
 
-both-within : {A B : Type 0} (make : A → B → Event) (a : Option A) (b : Option B) (asked : Event) → both make a b ≡ Some asked
-    → ((x : A) (y : B) → a ≡ Some x → b ≡ Some y → IsAsked (make x y)) → IsAsked asked
-both-within make None b asked e h = absurd cc
-both-within make (Some x) None asked e h = absurd cc
-both-within make (Some x) (Some y) asked e h = let same : make x y ≡ asked = cc in subst IsAsked same (h x y refl refl)
+both-within : {A B C : Type 0} (P : C → Type 0) (make : A → B → C) (a : Option A) (b : Option B) (asked : C) → both make a b ≡ Some asked
+    → ((x : A) (y : B) → a ≡ Some x → b ≡ Some y → P (make x y)) → P asked
+both-within P make None b asked e h = absurd cc
+both-within P make (Some x) None asked e h = absurd cc
+both-within P make (Some x) (Some y) asked e h = let made : make x y ≡ asked = cc in subst P made (h x y refl refl)
 
 all_three-within : {A B C : Type 0} (make : A → B → C → Event) (a : Option A) (b : Option B) (c : Option C) (asked : Event) → all_three make a b c ≡ Some asked
     → ((x : A) (y : B) (z : C) → a ≡ Some x → b ≡ Some y → c ≡ Some z → IsAsked (make x y z)) → IsAsked asked
 all_three-within make None b c asked e h = absurd cc
-all_three-within make (Some x) b c asked e h = both-within (make x) b c asked e (λ y z. h x y z refl)
+all_three-within make (Some x) b c asked e h = both-within IsAsked (make x) b c asked e (λ y z. h x y z refl)
 
 mapped-within : {A : Type 0} (make : A → Event) (a : Option A) (asked : Event) → option_map make a ≡ Some asked → ((x : A) → a ≡ Some x → IsAsked (make x)) → IsAsked asked
 mapped-within make None asked e h = absurd cc
 mapped-within make (Some x) asked e h = let same : make x ≡ asked = cc in subst IsAsked same (h x refl)
 
-one-within : (b : Bool) (asked : Event) → cond b (Some block_end) None ≡ Some asked → IsAsked asked
+one-within : (b c : Bool) (asked : Event) → cond b (Some block_end) (cond c (Some stats) None) ≡ Some asked → IsAsked asked
 unfolding IsAsked
-one-within true asked e = let same : block_end ≡ asked = cc in subst IsAsked same tt
-one-within false asked e = absurd cc
+one-within true c asked e = let found : block_end ≡ asked = cc in subst IsAsked found tt
+one-within false true asked e = let found : stats ≡ asked = cc in subst IsAsked found tt
+one-within false false asked e = absurd cc
 
-two-within : (b c : Bool) (text : List ℕ) (asked : Event) → cond b (option_map delete (key_of text)) (cond c (option_map head (id_of text)) None) ≡ Some asked → IsAsked asked
+two-within : (b c d : Bool) (text : List ℕ) (asked : Event) → cond b (option_map delete (key_of text)) (cond c (option_map head (id_of text)) (cond d (option_map usage (id_of text)) None)) ≡ Some asked → IsAsked asked
 unfolding IsAsked
-two-within true c text asked e = mapped-within delete (key_of text) asked e (λ key k. key-within text key k)
-two-within false true text asked e = mapped-within head (id_of text) asked e (λ id i. id-within text id i)
-two-within false false text asked e = absurd cc
+two-within true c d text asked e = mapped-within delete (key_of text) asked e (λ key k. key-within text key k)
+two-within false true d text asked e = mapped-within head (id_of text) asked e (λ id i. id-within text id i)
+two-within false false true text asked e = mapped-within usage (id_of text) asked e (λ id i. id-within text id i)
+two-within false false false text asked e = absurd cc
 
-three-within : (b c : Bool) (one two : List ℕ) (asked : Event) → cond b (both set (key_of one) (value_of two)) (cond c (both flat (id_of one) (key_of two)) None) ≡ Some asked → IsAsked asked
+three-within : (b c d f : Bool) (one two : List ℕ) (asked : Event) → cond b (both set (key_of one) (value_of two)) (cond c (both flat (id_of one) (key_of two)) (cond d (both trie (id_of one) (key_of two)) (cond f (both same (id_of one) (id_of two)) None))) ≡ Some asked → IsAsked asked
 unfolding IsAsked
-three-within true c one two asked e = both-within set (key_of one) (value_of two) asked e (λ key value k v.
+three-within true c d f one two asked e = both-within IsAsked set (key_of one) (value_of two) asked e (λ key value k v.
     let key_is = key-within one key k in
     let value_is = value-within two value v in
     record { key = key_is.bytes; key_length = key_is.short; value = value_is.are_bytes; value_length = value_is.within })
-three-within false true one two asked e = both-within flat (id_of one) (key_of two) asked e (λ id key i k. (id-within one id i, key-within two key k))
-three-within false false one two asked e = absurd cc
+three-within false true d f one two asked e = both-within IsAsked flat (id_of one) (key_of two) asked e (λ id key i k. (id-within one id i, key-within two key k))
+three-within false false true f one two asked e = both-within IsAsked trie (id_of one) (key_of two) asked e (λ id key i k. (id-within one id i, key-within two key k))
+three-within false false false true one two asked e = both-within IsAsked same (id_of one) (id_of two) asked e (λ a b i j. (id-within one a i, id-within two b j))
+three-within false false false false one two asked e = absurd cc
 
 four-within : (b : Bool) (one two three : List ℕ) (asked : Event) → cond b (all_three block (id_of one) (id_of two) (number_of three)) None ≡ Some asked → IsAsked asked
 unfolding IsAsked
@@ -137,9 +142,9 @@ four-within false one two three asked e = absurd cc
 
 words-within : (words : List (List ℕ)) (asked : Event) → event_of_words words ≡ Some asked → IsAsked asked
 words-within [] asked e = absurd cc
-words-within (word ∷ []) asked e = one-within (bytes_eq word (codes "end")) asked e
-words-within (word ∷ a ∷ []) asked e = two-within (bytes_eq word (codes "del")) (bytes_eq word (codes "head")) a asked e
-words-within (word ∷ a ∷ b ∷ []) asked e = three-within (bytes_eq word (codes "set")) (bytes_eq word (codes "flat")) a b asked e
+words-within (word ∷ []) asked e = one-within (bytes_eq word (codes "end")) (bytes_eq word (codes "stats")) asked e
+words-within (word ∷ a ∷ []) asked e = two-within (bytes_eq word (codes "del")) (bytes_eq word (codes "head")) (bytes_eq word (codes "usage")) a asked e
+words-within (word ∷ a ∷ b ∷ []) asked e = three-within (bytes_eq word (codes "set")) (bytes_eq word (codes "flat")) (bytes_eq word (codes "trie")) (bytes_eq word (codes "same")) a b asked e
 words-within (word ∷ a ∷ b ∷ c ∷ []) asked e = four-within (bytes_eq word (codes "block")) a b c asked e
 words-within (word ∷ a ∷ b ∷ c ∷ d ∷ words) asked e = absurd cc
 
@@ -163,3 +168,23 @@ asked-within (byte ∷ line) asked e = line-within (is_hash byte) (list_any is_c
 pub IsPair-event_of : (line key value : List ℕ) → event_of line ≡ Some (set key value) → IsPair (key, value)
 unfolding IsAsked
 IsPair-event_of line key value e = asked-within line (set key value) e
+
+-- ---- command words
+
+single-within : (b c : Bool) (asked : Command) → cond b (Some root) (cond c (Some apply) None) ≡ Some asked → IsCommanded asked
+unfolding IsCommanded
+single-within true c asked e = let found : root ≡ asked = cc in subst IsCommanded found tt
+single-within false true asked e = let found : apply ≡ asked = cc in subst IsCommanded found tt
+single-within false false asked e = absurd cc
+
+getting-within : (b : Bool) (one two : List ℕ) (asked : Command) → cond b (both get (id_of one) (key_of two)) None ≡ Some asked → IsCommanded asked
+unfolding IsCommanded
+getting-within true one two asked e = both-within IsCommanded get (id_of one) (key_of two) asked e (λ id key i k. (id-within one id i, key-within two key k))
+getting-within false one two asked e = absurd cc
+
+pub command-within : (words : List (List ℕ)) (asked : Command) → command_of words ≡ Some asked → IsCommanded asked
+command-within [] asked e = absurd cc
+command-within (word ∷ []) asked e = single-within (bytes_eq word (codes "root")) (bytes_eq word (codes "apply")) asked e
+command-within (word ∷ a ∷ []) asked e = absurd cc
+command-within (word ∷ a ∷ b ∷ []) asked e = getting-within (bytes_eq word (codes "get")) a b asked e
+command-within (word ∷ a ∷ b ∷ c ∷ words) asked e = absurd cc

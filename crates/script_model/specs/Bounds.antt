@@ -3,7 +3,8 @@ use Rattle.std.specs.Prelude.{◌≡◌, ℕ, ◌^◌, ◌<◌, ◌≤◌, List,
 use Rattle.byte_model.specs.Nibbles.{AreBytes}
 use Rattle.byte_model.specs.Node.{digest_width}
 use Rattle.trie_model.specs.State.{IsPair, longest_key}
-use Rattle.script_model.specs.Lines.{Event, nothing, block, set, delete, block_end, head, flat}
+use Rattle.script_model.specs.Lines.{Event, nothing, block, set, delete, block_end, head, flat, trie, same, usage, stats}
+use Rattle.script_model.specs.Words.{Command, root, apply, get}
 
 pub record IsId (id : List ℕ) : Type 0 where
   pub bytes : AreBytes id
@@ -21,3 +22,13 @@ IsAsked (delete key) = IsKey key
 IsAsked block_end = ⊤
 IsAsked (head id) = IsId id
 IsAsked (flat id key) = IsId id × IsKey key
+IsAsked (trie id key) = IsId id × IsKey key
+IsAsked (same a b) = IsId a × IsId b
+IsAsked (usage id) = IsId id
+IsAsked stats = ⊤
+
+-- and what command words ask for
+unfoldable pub IsCommanded : Command → Type 0
+IsCommanded root = ⊤
+IsCommanded apply = ⊤
+IsCommanded (get id key) = IsId id × IsKey key

@@ -23,7 +23,7 @@ is_hash byte = byte == 35
 
 -- ---- what a line asks for
 
--- A block begins over another, with a height, and ends; keys are set and deleted; the head moves to a block; a key is read at a block.
+-- A block begins over another, with a height, and ends; keys are set and deleted; the head moves to a block. What is asked of live blocks: a key in flat storage, and in a trie; whether two have one state; the usage of one; and how much is kept.
 pub data Event : Type 0 where
   nothing : Event
   block : (id prev : List ℕ) (height : ℕ) → Event
@@ -32,9 +32,13 @@ pub data Event : Type 0 where
   block_end : Event
   head : (id : List ℕ) → Event
   flat : (id key : List ℕ) → Event
+  trie : (id key : List ℕ) → Event
+  same : (a b : List ℕ) → Event
+  usage : (id : List ℕ) → Event
+  stats : Event
 
 -- what is made of two or three things, where all are there
-abbrev pub both : {A B : Type 0} → (A → B → Event) → Option A → Option B → Option Event
+abbrev pub both : {A B C : Type 0} → (A → B → C) → Option A → Option B → Option C
 both make None b = None
 both make (Some a) None = None
 both make (Some a) (Some b) = Some (make a b)
@@ -45,24 +49,30 @@ all_three make (Some a) b c = both (make a) b c
 
 -- a word alone, and a word with one, two and three things behind it
 abbrev pub event_of_one : List ℕ → Option Event
-event_of_one word = if bytes_eq word (codes "end") then Some block_end else None
+event_of_one word =
+    if bytes_eq word (codes "end") then Some block_end
+    else if bytes_eq word (codes "stats") then Some stats
+    else None
 
 abbrev pub event_of_two : List ℕ → List ℕ → Option Event
 event_of_two word a =
     if bytes_eq word (codes "del") then option_map delete (key_of a)
     else if bytes_eq word (codes "head") then option_map head (id_of a)
+    else if bytes_eq word (codes "usage") then option_map usage (id_of a)
     else None
 
 abbrev pub event_of_three : List ℕ → List ℕ → List ℕ → Option Event
 event_of_three word a b =
     if bytes_eq word (codes "set") then both set (key_of a) (value_of b)
     else if bytes_eq word (codes "flat") then both flat (id_of a) (key_of b)
+    else if bytes_eq word (codes "trie") then both trie (id_of a) (key_of b)
+    else if bytes_eq word (codes "same") then both same (id_of a) (id_of b)
     else None
 
 abbrev pub event_of_four : List ℕ → List ℕ → List ℕ → List ℕ → Option Event
 event_of_four word a b c = if bytes_eq word (codes "block") then all_three block (id_of a) (id_of b) (number_of c) else None
 
--- `end`, `del K`, `head ID`, `set K V`, `flat ID K`, `block ID ID NUM`
+-- `end`, `stats`, `del K`, `head ID`, `usage ID`, `set K V`, `flat ID K`, `trie ID K`, `same ID ID`, `block ID ID NUM`
 abbrev pub event_of_words : List (List ℕ) → Option Event
 event_of_words [] = None
 event_of_words (word ∷ []) = event_of_one word

@@ -1,16 +1,17 @@
--- the next event of a script, and the output of a script event by event
+-- the next event of a script, and what becomes of a script event by event
 pub mod Stops
 pub mod Scripts
 -- the command `root`
 pub mod Puts
 pub mod RootLines
 pub mod Replies
--- the command `apply`
-pub mod KeptBlocks
-pub mod Offers
+-- readings and lines of a history
+pub mod Answered
 pub mod Histories
 pub mod Sending
 pub mod HistoryEnds
 -- how a run ends
 pub mod Runs
+pub mod Finished
+pub mod Requests
 pub mod HistoryRuns

@@ -1,19 +1,22 @@
 -- How a run ends, by what was written last.
-use Rattle.std.proofs.Common.{◌≡◌, ℕ, List, Option, Some, None, Result, Ok, IfOk, IfSome, inl, inr, refl, sym, ap, subst, ◌∙◌}
+use Rattle.std.proofs.Common.{◌≡◌, ◌≢◌, ◌≤◌, ℕ, List, Option, Some, None, Result, Ok, IfOk, IfSome, inl, inr, refl, sym, ap, subst, ◌∙◌, arith}
 use Rattle.script_model.specs.Words.{Command, command_of}
 use Rattle.output_model.specs.Root.{root_output}
 use Rattle.output_model.specs.Ends.{Output, Ending, RunLimits}
-use Rattle.output_model.specs.Output.{output_of, command_output}
+use Rattle.fork_model.specs.States.{ForkState}
+use Rattle.output_model.specs.Scripts.{Outcome}
+use Rattle.output_model.specs.Output.{outcome_of, command_outcome}
 use Rattle.script_io.specs.declared.command.Command.{Command as Asked}
 use Rattle.script_io.specs.Meanings.{command}
 use Rattle.shard_cmd.specs.declared.reply.Reply.{Reply}
 use Rattle.shard_cmd.specs.declared.status.Status.{Status}
-use Rattle.shard_cmd.specs.Ends.{ending_of, EndsAs, HasEnding, FinishesAs}
+use Rattle.shard_cmd.specs.declared.status.Status.TheVariants as status
+use Rattle.shard_cmd.specs.Ends.{ending_of, EndsAs, HasEnding, FinishesAs, StoreCounts}
 use Rattle.shard_cmd.specs.Replies.{IsReply}
 
-output_of-command : (limits : RunLimits) (words : List (List ℕ)) (input : List ℕ) (o : Option Command) → command_of words ≡ o → output_of limits words input ≡ command_output limits o input
-unfolding output_of
-output_of-command limits words input o e = ap (λ c. command_output limits c input) e
+outcome_of-command : (limits : RunLimits) (words : List (List ℕ)) (input : List ℕ) (o : Option Command) → command_of words ≡ o → outcome_of limits words input ≡ command_outcome limits o input
+unfolding outcome_of
+outcome_of-command limits words input o e = ap (λ c. command_outcome limits c input) e
 
 -- what the last writing of a reply makes of the run
 pub ends_with_reply : (limits : RunLimits) (left written after : Option (List ℕ)) (reply : Reply) (bytes : List ℕ) (ending : Option Ending)
@@ -23,11 +26,11 @@ pub ends_with_reply : (limits : RunLimits) (left written after : Option (List �
 ends_with_reply limits None written after reply bytes ending is same ends = tt
 ends_with_reply limits (Some input) written after reply bytes ending is same ends = ends (root_output limits input) (same ∙ is.bytes) is.ending
 
--- what holds of the output of the command that the words are
-pub by_command : (P : Output → Type 0) (limits : RunLimits) (words : List (List ℕ)) (left : Option (List ℕ)) (o : Option Command) → command_of words ≡ o
-    → IfSome left (λ input. P (command_output limits o input)) → IfSome left (λ input. P (output_of limits words input))
+-- what holds of what becomes of the command that the words are
+pub by_command : (P : Outcome ForkState → Type 0) (limits : RunLimits) (words : List (List ℕ)) (left : Option (List ℕ)) (o : Option Command) → command_of words ≡ o
+    → IfSome left (λ input. P (command_outcome limits o input)) → IfSome left (λ input. P (outcome_of limits words input))
 by_command P limits words None o e h = tt
-by_command P limits words (Some input) o e h = subst P (sym (output_of-command limits words input o e)) h
+by_command P limits words (Some input) o e h = subst P (sym (outcome_of-command limits words input o e)) h
 
 pub told : (left : Option (List ℕ)) {P : Type 0} → P → IfSome left (λ _. P)
 told None h = tt
@@ -41,3 +44,37 @@ has_ending output status end before now e (inr fault) = rw fault.0 tt
 -- the command that was read is that of the words
 pub command_read : {E : Type 0} (words : List (List ℕ)) (r : Result Asked E) (found : Asked) → r ≡ Ok found → IfOk r (λ f. command_of words ≡ Some (command f)) → command_of words ≡ Some (command found)
 command_read {E} words r found is h = subst (λ (r : Result Asked E). IfOk r (λ f. command_of words ≡ Some (command f))) is h
+
+-- of an input that the source tells
+pub by_input : (left : Option (List ℕ)) (P Q : List ℕ → Type 0) → ((input : List ℕ) → P input → Q input) → IfSome left P → IfSome left Q
+by_input None P Q f h = tt
+by_input (Some input) P Q f h = f input h
+
+pub each_input : (left : Option (List ℕ)) (Q : List ℕ → Type 0) → ((input : List ℕ) → Q input) → IfSome left Q
+each_input None Q f = tt
+each_input (Some input) Q f = f input
+
+-- a store that was not called
+pub store_same : (s : Status) (faults : ℕ) → s ≢ status.StoreFault → StoreCounts s faults faults
+store_same status.Done faults n = refl
+store_same status.NoMemory faults n = refl
+store_same status.Usage faults n = refl
+store_same status.Syntax faults n = refl
+store_same status.Refused faults n = refl
+store_same status.ReadFault faults n = refl
+store_same status.WriteFault faults n = inl refl
+store_same status.StoreFault faults n = absurd (n refl)
+store_same status.Clash faults n = refl
+
+-- a count does not fall
+pub store_fell : (s : Status) (faults now : ℕ) → StoreCounts s faults now → faults ≤ now
+store_fell status.Done faults now e = omega (arith, e)
+store_fell status.NoMemory faults now e = omega (arith, e)
+store_fell status.Usage faults now e = omega (arith, e)
+store_fell status.Syntax faults now e = omega (arith, e)
+store_fell status.Refused faults now e = omega (arith, e)
+store_fell status.ReadFault faults now e = omega (arith, e)
+store_fell status.WriteFault faults now (inl e) = omega (arith, e)
+store_fell status.WriteFault faults now (inr e) = omega (arith, e)
+store_fell status.StoreFault faults now e = omega (arith, e)
+store_fell status.Clash faults now e = omega (arith, e)

@@ -1,9 +1,10 @@
 -- Replies that are gathered, and what was written of them.
-use Rattle.std.proofs.Common.{◌≡◌, ℕ, List, [], ◌++◌, Option, Some, None, IfSome, sym, ap, subst, ◌∙◌, append_assoc, append-nil}
+use Rattle.std.proofs.Common.{◌≡◌, ℕ, ◌+◌, ◌≤◌, List, [], ◌++◌, Option, Some, None, IfSome, sym, ap, subst, ◌∙◌, append_assoc, append-nil, arith}
+use Rattle.base_core.specs.Faults.{risen}
 use Rattle.output_model.specs.Ends.{Output}
-use Rattle.output_model.specs.Scripts.{behind}
+use Rattle.output_model.specs.Scripts.{Outcome, onward}
 use Rattle.script_io.specs.Streams.{AppendsPrefix}
-use Rattle.shard_cmd.specs.Sending.{Sends, Reaches}
+use Rattle.shard_cmd.specs.Sending.{Sends, Reaches, Loads, IsWithin, Stops, Fails}
 
 pub Sends-begin : (before : Option (List ℕ)) (kept : List ℕ) → kept ≡ [] → Sends before before [] kept
 Sends-begin None kept e = tt
@@ -38,27 +39,51 @@ pub Sends-stops : (before after : Option (List ℕ)) (bytes kept : List ℕ) →
 Sends-stops None after bytes kept s = tt
 Sends-stops (Some b) after bytes kept s = record { prefix = s.0; rest = kept; parts = s.2; told = s.1 }
 
--- a prefix of the replies is one of the output
-pub prefix-behind : (before after : Option (List ℕ)) (replies : List ℕ) (output last : Output) → output ≡ behind replies last → IfSome before (λ b. AppendsPrefix b after replies) → IfSome before (λ b. AppendsPrefix b after output.bytes)
-prefix-behind None after replies output last e p = tt
-prefix-behind (Some b) after replies output last e p = record {
-  prefix = p.prefix;
-  rest = p.rest ++ last.bytes;
-  parts = ap (λ (o : Output). o.bytes) e ∙ ap (λ (l : List ℕ). l ++ last.bytes) p.parts ∙ append_assoc p.prefix p.rest last.bytes;
-  told = p.told;
-}
+-- ---- of an outcome that is that of a last step, behind replies and loads
 
--- ---- of an input that the source tells
+-- loads one after the other
+pub risen-risen : (before m n : ℕ) → risen (risen before m) n ≡ risen before (m + n)
+risen-risen before m n = omega arith
 
-module _ (outputs : List ℕ → Output) (before after : Option (List ℕ)) (replies : List ℕ) where
-  pub reaches : (left : Option (List ℕ)) (last : Output) (kept : List ℕ) → IfSome left (λ input. outputs input ≡ behind replies last) → Sends before after replies kept → IfSome left (λ input. Reaches (outputs input) last before after kept)
-  reaches None last kept e s = tt
-  reaches (Some input) last kept e s = record { replies = replies; output_is = e; sends = s }
+module _ {S : Type 0} (outcome last : Outcome S) (replies : List ℕ) (loaded : ℕ) (is : outcome ≡ onward replies loaded last) (before after : Option (List ℕ)) (kept : List ℕ) (sends : Sends before after replies kept) (counts : Loads) where
+  pub reaches : counts.now ≡ risen counts.before loaded → Reaches outcome last before after kept counts
+  reaches e = record { replies = replies; loaded = loaded; outcome_is = is; sends = sends; counted = e }
 
-  pub reaches_some : (left : Option (List ℕ)) (kept : List ℕ) → IfSome left (λ input. (last : Output) × (outputs input ≡ behind replies last)) → Sends before after replies kept → IfSome left (λ input. (last : Output) × Reaches (outputs input) last before after kept)
-  reaches_some None kept e s = tt
-  reaches_some (Some input) kept e s = (e.0, record { replies = replies; output_is = e.1; sends = s })
+  all_loads : outcome.loaded ≡ loaded + last.loaded
+  all_loads = ap (λ (o : Outcome S). o.loaded) is
 
-  pub fails_behind : (left : Option (List ℕ)) → IfSome left (λ input. (last : Output) × (outputs input ≡ behind replies last)) → IfSome before (λ b. AppendsPrefix b after replies) → IfSome left (λ input. IfSome before (λ b. AppendsPrefix b after (outputs input).bytes))
-  fails_behind None e p = tt
-  fails_behind (Some input) e p = prefix-behind before after replies (outputs input) e.0 e.1 p
+  -- the loads so far, and some of those of the last step
+  pub within : (cost : ℕ) → cost ≤ last.loaded → counts.before ≤ counts.now → counts.now ≤ risen counts.before (loaded + cost) → IsWithin outcome counts
+  within cost few least most =
+      let all : outcome.loaded ≡ loaded + last.loaded = all_loads in
+      record { least = least; most = omega (arith, few, most, all) }
+
+  pub stops : IsWithin outcome counts → Stops outcome before after kept counts
+  stops within = record { replies = replies; last = last.output; bytes = ap (λ (o : Outcome S). o.output.bytes) is; sends = sends; within = within }
+
+  -- no more is written
+  pub fails : IsWithin outcome counts → Fails outcome before after counts
+  fails within = record { written = by_before before sends; within = within }
+    where
+      by_before : (before : Option (List ℕ)) → Sends before after replies kept → IfSome before (λ b. AppendsPrefix b after outcome.output.bytes)
+      by_before None s = tt
+      by_before (Some b) s = record {
+        prefix = s.0;
+        rest = kept ++ last.output.bytes;
+        parts = ap (λ (o : Outcome S). o.output.bytes) is ∙ ap (λ (l : List ℕ). l ++ last.output.bytes) s.2 ∙ append_assoc s.0 kept last.output.bytes;
+        told = s.1;
+      }
+
+module _ {S : Type 0} (outcome last : Outcome S) (replies : List ℕ) (loaded : ℕ) (is : outcome ≡ onward replies loaded last) (before after : Option (List ℕ)) (counts : Loads) where
+  -- replies that were due could not be written
+  pub fails_unsent : IfSome before (λ b. AppendsPrefix b after replies) → IsWithin outcome counts → Fails outcome before after counts
+  fails_unsent prefix within = record { written = by_before before prefix; within = within }
+    where
+      by_before : (before : Option (List ℕ)) → IfSome before (λ b. AppendsPrefix b after replies) → IfSome before (λ b. AppendsPrefix b after outcome.output.bytes)
+      by_before None p = tt
+      by_before (Some b) p = record {
+        prefix = p.prefix;
+        rest = p.rest ++ last.output.bytes;
+        parts = ap (λ (o : Outcome S). o.output.bytes) is ∙ ap (λ (l : List ℕ). l ++ last.output.bytes) p.parts ∙ append_assoc p.prefix p.rest last.output.bytes;
+        told = p.told;
+      }

@@ -91,6 +91,10 @@ ends_at number held (lines.delete key) = Some (Syntax number)
 ends_at number held lines.block_end = Some (Syntax number)
 ends_at number held (lines.head id) = Some (Syntax number)
 ends_at number held (lines.flat id key) = Some (Syntax number)
+ends_at number held (lines.trie id key) = Some (Syntax number)
+ends_at number held (lines.same a b) = Some (Syntax number)
+ends_at number held (lines.usage id) = Some (Syntax number)
+ends_at number held lines.stats = Some (Syntax number)
 
 -- what is held once an event was done
 abbrev pub after_event : PairMap → lines.Event → PairMap
@@ -101,6 +105,10 @@ after_event held (lines.delete key) = held
 after_event held lines.block_end = held
 after_event held (lines.head id) = held
 after_event held (lines.flat id key) = held
+after_event held (lines.trie id key) = held
+after_event held (lines.same a b) = held
+after_event held (lines.usage id) = held
+after_event held lines.stats = held
 
 -- What an event asks for was done, and the script goes on; or it ends there, and nothing was done.
 abbrev pub Lays : (number : ℕ) (old new : PairMap) → lines.Event → Option End → Type 0

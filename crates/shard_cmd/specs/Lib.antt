@@ -1,8 +1,9 @@
--- how a run ends, and what the next event of a script is
+-- how a run ends, what the store holds then, and what the next event of a script is
 pub mod Ends
+pub mod HandedBack
 pub mod Replies
 pub mod Events
--- live blocks and histories as they are held, and replies that are gathered
-pub mod Blocks
+-- histories as they are held, and replies that are gathered
 pub mod Histories
 pub mod Sending
+pub mod Requests

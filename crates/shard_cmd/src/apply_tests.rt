@@ -7,6 +7,7 @@ use script_io::{MemSink, MemSource};
 use std::alloc::{AllocError, Global};
 use std::process::Abort;
 use std::test::Fail;
+use text_store::MemNodes;
 
 /// What a capital letter stands for in a script or a reply of these tests: an id, or a root that
 /// another program computed.
@@ -59,7 +60,16 @@ fn expect_by(
     let words = words(alloc)?;
     let mut source = MemSource::new(alloc, input, piece, &[])?;
     let mut sink = MemSink::new(alloc, 2048, 2048, &[])?;
-    let ended = run(alloc, words.as_slice(), &mut source, &mut sink, limits);
+    let nodes = MemNodes::new(alloc, &[])?;
+    let outcome = run(
+        alloc,
+        words.as_slice(),
+        &mut source,
+        &mut sink,
+        nodes,
+        limits,
+    );
+    let ended = outcome.status;
     assert_eq!(rt; ended, status, "by {piece}");
     assert_eq!(rt; sink.bytes(), output, "by {piece}");
     Ok(())
@@ -176,7 +186,9 @@ fn expect_fault(
     let mut source = MemSource::new(alloc, input.as_slice(), 100, reads)?;
     let mut sink = MemSink::new(alloc, 1000, 50, writes)?;
     let (words, limits) = (words.as_slice(), &Limits::FULL);
-    let ended = run(alloc, words, &mut source, &mut sink, limits);
+    let nodes = MemNodes::new(alloc, &[])?;
+    let outcome = run(alloc, words, &mut source, &mut sink, nodes, limits);
+    let ended = outcome.status;
     assert_eq!(rt; ended, status);
     assert_eq!(rt; sink.bytes().len(), written);
     assert!(rt; output.as_slice().starts_with(sink.bytes()));

@@ -1,4 +1,4 @@
-ghost use Rattle.std.specs.Prelude.{◌≡◌, ℕ, List, Some, None};
+ghost use Rattle.std.specs.Prelude.{◌≡◌, ◌≢◌, ℕ, List, true, false, Some, None, Err};
 ghost use Rattle.base_core.specs.Bounds.{AreLimits};
 ghost use Rattle.trie_model.specs.State.{IsPair};
 ghost use Rattle.fork_model.specs.States.{ForkState};
@@ -7,15 +7,15 @@ ghost use Rattle.script_io.specs.Meanings.{event};
 ghost use Rattle.script_model.specs.Lines as lines;
 ghost use Rattle.script_model.specs.Bounds.{IsAsked, IsKey};
 ghost use Rattle.shard_cmd.specs.Ends.{run_limits};
-ghost use Rattle.shard_cmd.specs.Blocks.{Keeps, AreKept};
-ghost use Rattle.shard_cmd.specs.Histories.{IsOpened, Steps, replied_as};
+ghost use Rattle.shard_cmd.specs.Histories.{Does, IsGoing, IsOpened, Steps, named, outside_as, refusal_of, skipped};
 
-use crate::blocks::Blocks;
-use crate::reply_lines::{put_accepted, put_moved, put_not_moved, put_refused, put_value};
-use base_core::{Changes, Digest, Fault, Limits, PutError, Text};
-use fork_tree::{MoveError, NotLive};
-use script_io::{Buffer, Event, put};
+use crate::readings::{gathered, read_flat, read_same, read_stats, read_trie, read_usage};
+use crate::reply_lines::{put_accepted, put_moved, put_not_moved, put_refused};
+use base_core::{Changes, Digest, Limits, PutError, Text};
+use script_io::{Buffer, Event};
+use shard_core::{ApplyError, Block, HeadError, Shard};
 use std::alloc::Global;
+use text_store::Nodes;
 
 /// A block that is being told.
 #[derive(Debug, Drop)]
@@ -31,44 +31,86 @@ pub struct Opened {
 pub enum Halt {
     /// The line stands where it may not.
     Syntax,
+    /// Texts of a block clash, with this digest.
+    Clash { digest: Digest },
+    /// The store failed.
+    StoreFault,
     /// There was no memory.
     NoMemory,
 }
 
 /// Does what a line asks for, and puts its reply behind the others. It answers the block that is
 /// being told from then on, if there is one.
-pub fn step(
+pub fn step<N: Nodes>(
     alloc: Global,
-    blocks: &mut Blocks,
+    shard: &mut Shard<N>,
     opened: Option<Opened>,
     asked: Event,
     replies: &mut Buffer,
     limits: &Limits,
 ) -> Result<Option<Opened>, Halt>
     requires limits { AreLimits limits.now }
-    requires kept { AreKept blocks.old }
+    requires going { shard.old.stopped ≡ false }
     requires within { IsAsked (event asked) }
-    ensures { (forks : ForkState) → Keeps (run_limits limits.now) forks blocks.old → IsOpened (run_limits limits.now) opened
-        → Steps (run_limits limits.now) forks opened (event asked) blocks.new replies.old.bytes replies.new.bytes result }
+    ensures { (forks : ForkState) → IsGoing N.store N.count_of (run_limits limits.now) shard.old forks → IsOpened (run_limits limits.now) opened
+        → Steps N.store N.count_of false (run_limits limits.now) forks opened (event asked) shard.old shard.new replies.old.bytes replies.new.bytes result }
 {
     match opened {
-        None => step_outside(alloc, blocks, asked, replies, limits),
-        Some(block) => step_inside(alloc, blocks, block, asked, replies),
+        None => step_outside(alloc, shard, asked, replies, limits),
+        Some(block) => step_inside(shard, block, asked, replies),
+    }
+}
+
+/// The same without replies, and without the readings.
+pub fn step_quietly<N: Nodes>(
+    alloc: Global,
+    shard: &mut Shard<N>,
+    opened: Option<Opened>,
+    asked: Event,
+    limits: &Limits,
+) -> Result<Option<Opened>, Halt>
+    requires limits { AreLimits limits.now }
+    requires going { shard.old.stopped ≡ false }
+    requires within { IsAsked (event asked) }
+    ensures { (forks : ForkState) (before : List ℕ) → IsGoing N.store N.count_of (run_limits limits.now) shard.old forks → IsOpened (run_limits limits.now) opened
+        → Steps N.store N.count_of true (run_limits limits.now) forks opened (event asked) shard.old shard.new before before result }
+{
+    let mut unheard = Buffer::new(alloc);
+    match opened {
+        None => step_outside(alloc, shard, unread(asked), &mut unheard, limits),
+        Some(block) => step_inside(shard, block, asked, &mut unheard),
+    }
+}
+
+/// What is left to do between two blocks where readings are skipped.
+fn unread(asked: Event) -> Event
+    requires { IsAsked (event asked) }
+    ensures skips { event result ≡ skipped (event asked) }
+    ensures within { IsAsked (event result) }
+{
+    match asked {
+        Event::Flat { .. } => Event::Nothing,
+        Event::Trie { .. } => Event::Nothing,
+        Event::Same { .. } => Event::Nothing,
+        Event::Usage { .. } => Event::Nothing,
+        Event::Stats => Event::Nothing,
+        asked => asked,
     }
 }
 
 /// Between two blocks.
-fn step_outside(
+fn step_outside<N: Nodes>(
     alloc: Global,
-    blocks: &mut Blocks,
+    shard: &mut Shard<N>,
     asked: Event,
     replies: &mut Buffer,
     limits: &Limits,
 ) -> Result<Option<Opened>, Halt>
     requires limits { AreLimits limits.now }
-    requires kept { AreKept blocks.old }
-    ensures { (forks : ForkState) → Keeps (run_limits limits.now) forks blocks.old
-        → Steps (run_limits limits.now) forks None (event asked) blocks.new replies.old.bytes replies.new.bytes result }
+    requires going { shard.old.stopped ≡ false }
+    requires within { IsAsked (event asked) }
+    ensures { (forks : ForkState) → IsGoing N.store N.count_of (run_limits limits.now) shard.old forks
+        → Steps N.store N.count_of false (run_limits limits.now) forks None (event asked) shard.old shard.new replies.old.bytes replies.new.bytes result }
 {
     match asked {
         Event::Nothing => Ok(None),
@@ -78,8 +120,12 @@ fn step_outside(
             height,
             changes: Changes::new(alloc, limits.changes),
         })),
-        Event::Head { id } => move_head(alloc, blocks, &id, replies),
-        Event::Flat { id, key } => read_key(blocks, &id, key.as_slice(), replies),
+        Event::Head { id } => outside(move_head(shard, &id, replies)),
+        Event::Flat { id, key } => outside(read_flat(shard, &id, key.as_slice(), replies)),
+        Event::Trie { id, key } => outside(read_trie(shard, &id, key.as_slice(), replies)),
+        Event::Same { a, b } => outside(read_same(shard, &a, &b, replies)),
+        Event::Usage { id } => outside(read_usage(shard, &id, replies)),
+        Event::Stats => outside(read_stats(shard, replies)),
         Event::Set { .. } => Err(Halt::Syntax),
         Event::Del { .. } => Err(Halt::Syntax),
         Event::End => Err(Halt::Syntax),
@@ -87,34 +133,38 @@ fn step_outside(
 }
 
 /// In a block.
-fn step_inside(
-    alloc: Global,
-    blocks: &mut Blocks,
+fn step_inside<N: Nodes>(
+    shard: &mut Shard<N>,
     block: Opened,
     asked: Event,
     replies: &mut Buffer,
 ) -> Result<Option<Opened>, Halt>
-    requires kept { AreKept blocks.old }
+    requires going { shard.old.stopped ≡ false }
     requires within { IsAsked (event asked) }
-    ensures { (limits : RunLimits) (forks : ForkState) → Keeps limits forks blocks.old → IsOpened limits (Some block)
-        → Steps limits forks (Some block) (event asked) blocks.new replies.old.bytes replies.new.bytes result }
+    ensures { (limits : RunLimits) (forks : ForkState) → IsGoing N.store N.count_of limits shard.old forks → IsOpened limits (Some block)
+        → Steps N.store N.count_of false limits forks (Some block) (event asked) shard.old shard.new replies.old.bytes replies.new.bytes result }
 {
     match asked {
         Event::Nothing => Ok(Some(block)),
         Event::Set { key, value } => set(block, key, value),
         Event::Del { key } => delete(block, key),
-        Event::End => end(alloc, blocks, block, replies),
+        Event::End => outside(end(shard, block, replies)),
         Event::Open { .. } => Err(Halt::Syntax),
         Event::Head { .. } => Err(Halt::Syntax),
         Event::Flat { .. } => Err(Halt::Syntax),
+        Event::Trie { .. } => Err(Halt::Syntax),
+        Event::Same { .. } => Err(Halt::Syntax),
+        Event::Usage { .. } => Err(Halt::Syntax),
+        Event::Stats => Err(Halt::Syntax),
     }
 }
 
 /// The block with one more key set.
 fn set(block: Opened, key: Text, value: Text) -> Result<Option<Opened>, Halt>
     requires { IsPair (key, value) }
-    ensures { (limits : RunLimits) (forks : ForkState) (blocks : Blocks) (before : List ℕ) → Keeps limits forks blocks → IsOpened limits (Some block)
-        → Steps limits forks (Some block) (lines.set key value) blocks before before result }
+    ensures does { (limits : RunLimits) (forks : ForkState) (before : List ℕ) → IsOpened limits (Some block)
+        → Does false limits forks (Some block) (lines.set key value) (λ f. f ≡ forks) before before result }
+    ensures no_fault { result ≢ Err Halt.StoreFault }
 {
     let mut block = block;
     match block.changes.put(key, value) {
@@ -129,8 +179,9 @@ fn set(block: Opened, key: Text, value: Text) -> Result<Option<Opened>, Halt>
 /// The block with one more key deleted.
 fn delete(block: Opened, key: Text) -> Result<Option<Opened>, Halt>
     requires { IsKey key }
-    ensures { (limits : RunLimits) (forks : ForkState) (blocks : Blocks) (before : List ℕ) → Keeps limits forks blocks → IsOpened limits (Some block)
-        → Steps limits forks (Some block) (lines.delete key) blocks before before result }
+    ensures does { (limits : RunLimits) (forks : ForkState) (before : List ℕ) → IsOpened limits (Some block)
+        → Does false limits forks (Some block) (lines.delete key) (λ f. f ≡ forks) before before result }
+    ensures no_fault { result ≢ Err Halt.StoreFault }
 {
     let mut block = block;
     match block.changes.remove(key) {
@@ -143,15 +194,10 @@ fn delete(block: Opened, key: Text) -> Result<Option<Opened>, Halt>
 }
 
 /// Offers the block.
-fn end(
-    alloc: Global,
-    blocks: &mut Blocks,
-    block: Opened,
-    replies: &mut Buffer,
-) -> Result<Option<Opened>, Halt>
-    requires { AreKept blocks.old }
-    ensures { (limits : RunLimits) (forks : ForkState) → Keeps limits forks blocks.old
-        → Steps limits forks (Some block) lines.block_end blocks.new replies.old.bytes replies.new.bytes result }
+fn end<N: Nodes>(shard: &mut Shard<N>, block: Opened, replies: &mut Buffer) -> Result<(), Halt>
+    requires { shard.old.stopped ≡ false }
+    ensures { (limits : RunLimits) (forks : ForkState) → IsGoing N.store N.count_of limits shard.old forks
+        → Steps N.store N.count_of false limits forks (Some block) lines.block_end shard.old shard.new replies.old.bytes replies.new.bytes (outside_as result) }
 {
     let Opened {
         id,
@@ -159,57 +205,61 @@ fn end(
         height,
         changes,
     } = block;
-    match blocks.offer(alloc, id, prev, height, changes) {
-        Ok(root) => replied(put_accepted(replies, &id, &root)),
-        Err(error) => match error.name() {
-            Some(name) => replied(put_refused(replies, &id, name)),
-            None => Err(Halt::NoMemory),
+    match shard.apply(Block {
+        id,
+        prev,
+        height,
+        changes,
+    }) {
+        Ok(applied) => gathered(put_accepted(replies, &id, &applied.root)),
+        Err(error) => match refusal(error) {
+            Ok(name) => gathered(put_refused(replies, &id, name)),
+            Err(halt) => Err(halt),
         },
     }
 }
 
+/// The name by which a block is refused, or why the script does not go on.
+fn refusal(error: ApplyError) -> Result<&'static [u8], Halt>
+    requires { error ≢ ApplyError.Stopped }
+    ensures { named result ≡ refusal_of error }
+{
+    match error {
+        ApplyError::Known => Ok(b"known"),
+        ApplyError::NoPrev => Ok(b"no-prev"),
+        ApplyError::Height => Ok(b"height"),
+        ApplyError::FullBlocks => Ok(b"full-blocks"),
+        ApplyError::FullPairs => Ok(b"full-pairs"),
+        ApplyError::Clash { digest } => Err(Halt::Clash { digest }),
+        ApplyError::StoreFault => Err(Halt::StoreFault),
+        ApplyError::NoMemory => Err(Halt::NoMemory),
+        // No call was cut short.
+        ApplyError::Stopped => unreachable!(),
+    }
+}
+
 /// Moves the head to a block.
-fn move_head(
-    alloc: Global,
-    blocks: &mut Blocks,
-    id: &Digest,
-    replies: &mut Buffer,
-) -> Result<Option<Opened>, Halt>
-    requires { AreKept blocks.old }
-    ensures { (limits : RunLimits) (forks : ForkState) → Keeps limits forks blocks.old
-        → Steps limits forks None (lines.head id.now.0) blocks.new replies.old.bytes replies.new.bytes result }
+fn move_head<N: Nodes>(shard: &mut Shard<N>, id: &Digest, replies: &mut Buffer) -> Result<(), Halt>
+    requires { shard.old.stopped ≡ false }
+    ensures { (limits : RunLimits) (forks : ForkState) → IsGoing N.store N.count_of limits shard.old forks
+        → Steps N.store N.count_of false limits forks None (lines.head id.now.0) shard.old shard.new replies.old.bytes replies.new.bytes (outside_as result) }
 {
-    match blocks.move_head(alloc, id) {
-        Ok(moved) => replied(put_moved(replies, id, &moved)),
-        Err(MoveError::NotLive) => replied(put_not_moved(replies, id)),
-        Err(MoveError::NoMemory) => Err(Halt::NoMemory),
+    match shard.move_head(id) {
+        Ok(moved) => gathered(put_moved(replies, id, &moved)),
+        Err(HeadError::NotLive) => gathered(put_not_moved(replies, id)),
+        Err(HeadError::StoreFault) => Err(Halt::StoreFault),
+        Err(HeadError::NoMemory) => Err(Halt::NoMemory),
+        // No call was cut short.
+        Err(HeadError::Stopped) => unreachable!(),
     }
 }
 
-/// Reads a key at a block.
-fn read_key(
-    blocks: &Blocks,
-    id: &Digest,
-    key: &[u8],
-    replies: &mut Buffer,
-) -> Result<Option<Opened>, Halt>
-    requires { AreKept blocks.now }
-    ensures { (limits : RunLimits) (forks : ForkState) → Keeps limits forks blocks.now
-        → Steps limits forks None (lines.flat id.now.0 key.now) blocks.now replies.old.bytes replies.new.bytes result }
+/// No block is being told behind what was replied to.
+fn outside(replied: Result<(), Halt>) -> Result<Option<Opened>, Halt>
+    ensures { result ≡ outside_as replied }
 {
-    match blocks.read(id, key) {
-        Ok(Some(value)) => replied(put_value(replies, value)),
-        Ok(None) => replied(put(replies, b"flat none\n")),
-        Err(NotLive) => replied(put(replies, b"flat refused not-live\n")),
-    }
-}
-
-/// No block is being told once a reply was put. A buffer fails for want of memory alone.
-fn replied(put: Result<(), Fault>) -> Result<Option<Opened>, Halt>
-    ensures { result ≡ replied_as put }
-{
-    match put {
+    match replied {
         Ok(()) => Ok(None),
-        Err(Fault) => Err(Halt::NoMemory),
+        Err(halt) => Err(halt),
     }
 }

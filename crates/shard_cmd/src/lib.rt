@@ -3,21 +3,24 @@
 #![tactic(auto)]
 
 mod apply;
-mod block_error;
-mod blocks;
 mod events;
+mod get;
 mod history;
+mod readings;
 mod reply;
 mod reply_lines;
 mod root;
 mod running;
+mod script;
 mod status;
 mod writing;
 
 pub use running::run;
-pub use status::Status;
+pub use status::{Outcome, Status};
 
 #[cfg(test)]
 mod apply_tests;
+#[cfg(test)]
+mod shard_tests;
 #[cfg(test)]
 mod tests;

@@ -2,11 +2,12 @@ ghost use Rattle.std.specs.Prelude.{◌≡◌, ◌++◌, OnOk, codes};
 ghost use Rattle.std.specs.Fmt.{decimal};
 ghost use Rattle.hex.specs.Hex.{encode_lower};
 ghost use Rattle.output_model.specs.Ends.{line_of};
+ghost use Rattle.output_model.specs.Readings.{stats_of};
 ghost use Rattle.script_model.specs.Spellings.{hex_text};
 
-use crate::blocks::Moved;
 use base_core::{Digest, Fault};
 use script_io::{Buffer, put, put_hex, put_number};
+use shard_core::{HeadMoved, Stats};
 
 /// The line `block ID ok ROOT`.
 pub fn put_accepted(replies: &mut Buffer, id: &Digest, root: &Digest) -> Result<(), Fault>
@@ -33,7 +34,7 @@ pub fn put_refused(replies: &mut Buffer, id: &Digest, name: &[u8]) -> Result<(),
 }
 
 /// The line `head ID ok PASSED DROPPED`.
-pub fn put_moved(replies: &mut Buffer, id: &Digest, moved: &Moved) -> Result<(), Fault>
+pub fn put_moved(replies: &mut Buffer, id: &Digest, moved: &HeadMoved) -> Result<(), Fault>
     ensures { OnOk result (replies.new.bytes ≡ replies.old.bytes
         ++ line_of (codes "head " ++ encode_lower id.now.0 ++ codes " ok " ++ decimal moved.now.passed ++ codes " " ++ decimal moved.now.dropped)) }
 {
@@ -56,12 +57,48 @@ pub fn put_not_moved(replies: &mut Buffer, id: &Digest) -> Result<(), Fault>
     put(replies, b" refused not-live\n")
 }
 
-/// The line `flat V`.
-pub fn put_value(replies: &mut Buffer, value: &[u8]) -> Result<(), Fault>
-    ensures { OnOk result (replies.new.bytes ≡ replies.old.bytes ++ line_of (codes "flat " ++ hex_text value.now)) }
+/// The line `flat V` or `trie V`, by the word with which it begins.
+pub fn put_value(replies: &mut Buffer, word: &[u8], value: &[u8]) -> Result<(), Fault>
+    ensures { OnOk result (replies.new.bytes ≡ replies.old.bytes ++ line_of (word.now ++ hex_text value.now)) }
 {
-    put(replies, b"flat ")?;
+    put(replies, word)?;
     put_hex(replies, value)?;
+    put(replies, b"\n")?;
+    Ok(())
+}
+
+/// The line `usage N`.
+pub fn put_usage(replies: &mut Buffer, usage: u64) -> Result<(), Fault>
+    ensures { OnOk result (replies.new.bytes ≡ replies.old.bytes ++ line_of (codes "usage " ++ decimal usage)) }
+{
+    put(replies, b"usage ")?;
+    put_number(replies, usage)?;
+    put(replies, b"\n")?;
+    Ok(())
+}
+
+/// The line `stats LIVE PAIRS DELTAS DISTINCT`.
+pub fn put_stats(replies: &mut Buffer, stats: &Stats) -> Result<(), Fault>
+    ensures { OnOk result (replies.new.bytes ≡ replies.old.bytes ++ stats_of stats.now.live stats.now.pairs stats.now.deltas stats.now.distinct) }
+{
+    put(replies, b"stats ")?;
+    put_number(replies, stats.live)?;
+    put(replies, b" ")?;
+    put_number(replies, stats.pairs)?;
+    put(replies, b" ")?;
+    put_number(replies, stats.deltas)?;
+    put(replies, b" ")?;
+    put_number(replies, stats.distinct)?;
+    put(replies, b"\n")?;
+    Ok(())
+}
+
+/// The line `clash DIGEST`, of the digest that texts of a block share.
+pub fn put_clash(replies: &mut Buffer, digest: &Digest) -> Result<(), Fault>
+    ensures { OnOk result (replies.new.bytes ≡ replies.old.bytes ++ line_of (codes "clash " ++ encode_lower digest.now.0)) }
+{
+    put(replies, b"clash ")?;
+    put_digits(replies, digest)?;
     put(replies, b"\n")?;
     Ok(())
 }

@@ -1,3 +1,5 @@
+use text_store::Nodes;
+
 /// How a run ended. As a number it is the exit status of the program.
 #[derive(Clone, Copy, Debug, PartialEq, Eq)]
 pub enum Status {
@@ -15,4 +17,15 @@ pub enum Status {
     ReadFault = 5,
     /// The sink failed.
     WriteFault = 6,
+    /// The store failed.
+    StoreFault = 7,
+    /// Texts of a block clash. Their digest was written.
+    Clash = 8,
+}
+
+/// How a run ended, and the store that it was given.
+#[derive(Debug, Drop)]
+pub struct Outcome<N: Nodes> {
+    pub status: Status,
+    pub nodes: N,
 }

@@ -7,6 +7,7 @@ use script_io::{MemSink, MemSource, Source};
 use std::alloc::{AllocError, Global};
 use std::process::Abort;
 use std::test::Fail;
+use text_store::MemNodes;
 
 const EMPTY: &[u8] = b"root 0000000000000000000000000000000000000000000000000000000000000000 0\n";
 
@@ -55,7 +56,16 @@ fn expect_by(
     let words = words(alloc, &[b"root"])?;
     let mut source = MemSource::new(alloc, input, piece, &[])?;
     let mut sink = MemSink::new(alloc, 1024, 1024, &[])?;
-    let ended = run(alloc, words.as_slice(), &mut source, &mut sink, limits);
+    let nodes = MemNodes::new(alloc, &[])?;
+    let outcome = run(
+        alloc,
+        words.as_slice(),
+        &mut source,
+        &mut sink,
+        nodes,
+        limits,
+    );
+    let ended = outcome.status;
     assert_eq!(rt; ended, status, "by {piece}");
     assert_eq!(rt; sink.bytes(), output, "by {piece}");
     Ok(())
@@ -195,7 +205,9 @@ fn faulty(
     let mut source = MemSource::new(alloc, b"set 61 6869\n", 7, reads)?;
     let mut sink = MemSink::new(alloc, room, 50, writes)?;
     let (words, limits) = (words.as_slice(), &Limits::FULL);
-    let status = run(alloc, words, &mut source, &mut sink, limits);
+    let nodes = MemNodes::new(alloc, &[])?;
+    let outcome = run(alloc, words, &mut source, &mut sink, nodes, limits);
+    let status = outcome.status;
     Ok((status, sink))
 }
 
@@ -226,7 +238,9 @@ fn expect_bad(rt: &impl Abort, alloc: Global, texts: &[&[u8]]) -> Result<(), Fai
     let mut source = MemSource::new(alloc, b"set 61 6869\n", 7, &[1])?;
     let mut sink = MemSink::new(alloc, 100, 5, &[])?;
     let (words, limits) = (words.as_slice(), &Limits::FULL);
-    let status = run(alloc, words, &mut source, &mut sink, limits);
+    let nodes = MemNodes::new(alloc, &[])?;
+    let outcome = run(alloc, words, &mut source, &mut sink, nodes, limits);
+    let status = outcome.status;
     assert_eq!(rt; status, Status::Usage);
     assert_eq!(rt; sink.bytes(), b"bad command\n".as_slice());
     assert!(rt; source.read(&mut [0; 7]).is_err());

@@ -3,15 +3,15 @@ use Rattle.std.specs.Fmt.{digits}
 use Rattle.hex.specs.Hex.{encode_with}
 use Rattle.hex.proofs.OnLiterals.{hex_on_literals}
 use Rattle.trie_model.proofs.Worked.{root-empty}
-use Rattle.output_model.proofs.Unchanged.{after-none, get-none, len-none}
+use Rattle.output_model.proofs.Unchanged.{after-none, end-first, get-none}
 use Rattle.fork_model.proofs.Worked.{all_of_forks}
 use Rattle.script_model.specs.Lines.{event_of, line_fault, read_at}
 use Rattle.script_model.specs.Spellings.{hex_bytes, hex_text, key_of, value_of, id_of, number_of}
-use Rattle.output_model.specs.Scripts.{lines_output, script_output}
-use Rattle.output_model.specs.Output.{output_of}
-use Rattle.output_model.specs.Histories.{history_step, history_last, block_refused}
+use Rattle.output_model.specs.Scripts.{lines_outcome, script_outcome}
+use Rattle.output_model.specs.Output.{outcome_of}
+use Rattle.output_model.specs.Histories.{history_step, history_last, event_loads, request_loads}
 use Rattle.output_model.proofs.examples.a_block_without_changes.Goals as goal
 
 pub returns : goal.returns
-unfolding output_of script_output lines_output read_at line_fault event_of key_of value_of id_of number_of hex_bytes hex_text history_step history_last block_refused all_of_forks hex_on_literals encode_with digits
-returns c = rw (after-none, len-none, after-none, root-empty, get-none) refl
+unfolding outcome_of script_outcome lines_outcome read_at line_fault event_of key_of value_of id_of number_of hex_bytes hex_text history_step history_last event_loads request_loads all_of_forks hex_on_literals encode_with digits
+returns c = rw (end-first, after-none, root-empty, get-none) refl

@@ -1,56 +1,46 @@
-use Rattle.std.proofs.Common.{◌≡◌, ℕ, List, [], ◌∷◌, ◌++◌, Option, None, IfSome, refl, sym, ap, subst, ◌∙◌, append_assoc, append-nil}
-use Rattle.std.specs.Prelude.{codes}
-use Rattle.std.specs.Fmt.{decimal}
-use Rattle.script_model.specs.Lines.{line_feed}
-use Rattle.output_model.specs.Ends.{Output, Ending, done, syntax_at}
-use Rattle.output_model.specs.Scripts.{behind}
-use Rattle.output_model.specs.Apply.{apply_output}
-use Rattle.shard_cmd.specs.Ends.{run_limits, ending_of, EndsAs}
-use Rattle.shard_cmd.specs.Sending.{Reaches}
-use Rattle.shard_cmd.proofs.HistoryRuns.{all_written, some_written, none_written, fails_anyway, by_input}
+use Rattle.std.proofs.Common.{◌≡◌, ℕ, ◌∙◌, List, [], ap, refl, sym, subst}
+use Rattle.count_model.specs.Loads.{no_texts}
+use Rattle.output_model.specs.Apply.{apply_script, nothing_more}
+use Rattle.output_model.specs.Scripts.{script_outcome}
+use Rattle.output_model.specs.Output.{live_behind}
+use Rattle.base_core.specs.Faults.{faults_after}
+use Rattle.shard_cmd.specs.Ends.{run_limits, store_ended}
+use Rattle.shard_cmd.specs.declared.status.Status.TheVariants.{NoMemory}
+use Rattle.shard_cmd.specs.HandedBack.{EndsRun}
+use Rattle.shard_cmd.specs.Histories.{IsGoing}
+use Rattle.shard_cmd.specs.Sending.{EndsHistory}
+use Rattle.shard_cmd.proofs.Runs.{by_input, each_input}
+use Rattle.shard_cmd.proofs.HistoryRuns.{history_ends, never_begun}
+use Rattle.shard_cmd.proofs.Finished.{finished_done, finished_usage, sink_counts, source_finished, store_finished}
 use Rattle.shard_cmd.proofs.apply.run_apply.Goals as goal
 
-pub returns-in-Whole-clause-output : goal.returns-in-Whole-clause-output
-returns-in-Whole-clause-output g c =
-    let limits = run_limits c.args.limits.now in
-    let before : Option (List ℕ) = g.K.Sink.written c.args.sink.now in
-    let mid : Option (List ℕ) = g.K.Sink.written c.read_history.new.sink in
-    let after : Option (List ℕ) = g.K.Sink.written c.finish.new.sink in
-    let kept : List ℕ = c.read_history.new.replies.bytes in
-    let last : Output = record { bytes = []; ending = done } in
-    by_input (g.S.Source.left c.args.source.now) (λ input. Reaches (apply_output limits input) last before mid kept) (λ input. IfSome before (λ b. EndsAs (apply_output limits input) (ending_of c.finish.result) b after))
-    (λ input r. all_written before mid after (apply_output limits input) last kept (ending_of c.finish.result) r (c.finish.ensures.output (behind kept last) (c.bytes.ensures ∙ sym (append-nil kept)) refl)) c.in-Whole.ensures.end
+pub read_history-ended-requires-clause-going : goal.read_history-ended-requires-clause-going
+read_history-ended-requires-clause-going g c = record { of = c.in-Ok.ensures.blocks; going = c.in-Ok.ensures.going; limits_are = ap run_limits c.in-Ok.ensures.limits }
 
-pub returns-in-Ok-clause-output : goal.returns-in-Ok-clause-output
-returns-in-Ok-clause-output g c =
-    let limits = run_limits c.args.limits.now in
-    let before : Option (List ℕ) = g.K.Sink.written c.args.sink.now in
-    let mid : Option (List ℕ) = g.K.Sink.written c.read_history.new.sink in
-    let after : Option (List ℕ) = g.K.Sink.written c.finish-in-Ok.new.sink in
-    let kept : List ℕ = c.read_history.new.replies.bytes in
-    let last : Output = syntax_at c.in-Syntax.number in
-    let parts : (kept ++ codes "syntax " ++ decimal c.in-Syntax.number ++ line_feed ∷ []) ≡ kept ++ last.bytes =
-    ap (λ (l : List ℕ). l ++ line_feed ∷ []) (append_assoc kept (codes "syntax ") (decimal c.in-Syntax.number)) ∙ append_assoc kept (codes "syntax " ++ decimal c.in-Syntax.number) (line_feed ∷ []) in
-    by_input (g.S.Source.left c.args.source.now) (λ input. Reaches (apply_output limits input) last before mid kept) (λ input. IfSome before (λ b. EndsAs (apply_output limits input) (ending_of c.finish-in-Ok.result) b after))
-    (λ input r. all_written before mid after (apply_output limits input) last kept (ending_of c.finish-in-Ok.result) r (c.finish-in-Ok.ensures.output (behind kept last) (c.bytes-in-Ok.ensures ∙ c.in-Ok.ensures ∙ parts) refl)) c.in-Syntax.ensures.end
+pub returns-clause-ends : goal.returns-clause-ends
+returns-clause-ends g c =
+    by_input (g.S.Source.left c.args.source.now)
+    (λ input. EndsHistory (run_limits c.args.limits.now) nothing_more no_texts (script_outcome (apply_script (run_limits c.args.limits.now)) input) (IsGoing g.N.Texts.store g.N.Nodes.count_of (run_limits c.args.limits.now) c.read_history-ended.new.shard) (g.K.Sink.written c.args.sink.now) (g.K.Sink.written c.read_history-ended.new.sink) c.read_history-ended.new.replies.bytes (record { before = g.N.Texts.store.loads c.in-Ok.shard.nodes; now = g.N.Texts.store.loads c.read_history-ended.new.shard.nodes }) c.read_history-ended.result)
+    (λ input. EndsRun g.N.Texts.store g.N.Nodes.count_of (live_behind (script_outcome (apply_script (run_limits c.args.limits.now)) input)) c.args.nodes c.into_nodes.result (g.K.Sink.written c.args.sink.now) (g.K.Sink.written c.finish_history-status.new.sink) c.finish_history-status.result)
+    (λ input h. rw (c.into_nodes.ensures, ← c.in-Ok.ensures.nodes) (history_ends g.N.Texts.store g.N.Nodes.count_of (run_limits c.args.limits.now) c.read_history-ended.new.shard (script_outcome (apply_script (run_limits c.args.limits.now)) input) c.in-Ok.shard.nodes (g.K.Sink.written c.args.sink.now) (g.K.Sink.written c.read_history-ended.new.sink) (g.K.Sink.written c.finish_history-status.new.sink) c.read_history-ended.new.replies.bytes c.read_history-ended.result c.finish_history-status.result (g.K.Sink.faults c.read_history-ended.new.sink) (g.K.Sink.faults c.finish_history-status.new.sink) h (rw c.bytes.ensures at c.finish_history-status.ensures)))
+    (c.read_history-ended.ensures.end nothing_more no_texts)
 
-pub returns-in-Syntax-clause-output : goal.returns-in-Syntax-clause-output
-returns-in-Syntax-clause-output g c =
-    let limits = run_limits c.args.limits.now in
-    let before : Option (List ℕ) = g.K.Sink.written c.args.sink.now in
-    let mid : Option (List ℕ) = g.K.Sink.written c.read_history.new.sink in
-    let kept : List ℕ = c.read_history.new.replies.bytes in
-    let last : Output = syntax_at c.in-Syntax.number in
-    by_input (g.S.Source.left c.args.source.now) (λ input. Reaches (apply_output limits input) last before mid kept) (λ input. IfSome before (λ b. EndsAs (apply_output limits input) None b mid))
-    (λ input r. none_written before mid (apply_output limits input) last kept r) c.in-Syntax.ensures.end
+pub returns-clause-nothing_left : goal.returns-clause-nothing_left
+returns-clause-nothing_left g c = λ done. c.read_history-ended.ensures.nothing_left (finished_done c.read_history-ended.result c.finish_history-status.result c.read_history-ended.new.replies.bytes (g.K.Sink.written c.read_history-ended.new.sink) (g.K.Sink.written c.finish_history-status.new.sink) (g.K.Sink.faults c.read_history-ended.new.sink) (g.K.Sink.faults c.finish_history-status.new.sink) (rw c.bytes.ensures at c.finish_history-status.ensures) done)
 
-pub returns-in-ReadFault-clause-output : goal.returns-in-ReadFault-clause-output
-returns-in-ReadFault-clause-output g c =
-    let limits = run_limits c.args.limits.now in
-    let before : Option (List ℕ) = g.K.Sink.written c.args.sink.now in
-    let mid : Option (List ℕ) = g.K.Sink.written c.read_history.new.sink in
-    let after : Option (List ℕ) = g.K.Sink.written c.finish_failed.new.sink in
-    let kept : List ℕ = c.read_history.new.replies.bytes in
-    by_input (g.S.Source.left c.args.source.now) (λ input. (last : Output) × Reaches (apply_output limits input) last before mid kept) (λ input. IfSome before (λ b. EndsAs (apply_output limits input) (ending_of c.finish_failed.result) b after))
-    (λ input r. subst (λ (e : Option Ending). IfSome before (λ b. EndsAs (apply_output limits input) e b after)) (sym (fails_anyway c.finish_failed.result _ _ c.finish_failed.ensures.status))
-    (some_written before mid after (apply_output limits input) r.0 kept r.1 (rw c.bytes-in-ReadFault.ensures at c.finish_failed.ensures.output))) c.in-ReadFault.ensures.end
+pub returns-clause-no_usage : goal.returns-clause-no_usage
+returns-clause-no_usage g c = finished_usage c.read_history-ended.result c.finish_history-status.result c.read_history-ended.new.replies.bytes (g.K.Sink.written c.read_history-ended.new.sink) (g.K.Sink.written c.finish_history-status.new.sink) (g.K.Sink.faults c.read_history-ended.new.sink) (g.K.Sink.faults c.finish_history-status.new.sink) (rw c.bytes.ensures at c.finish_history-status.ensures) c.read_history-ended.ensures.no_usage
+
+pub returns-clause-source_faults : goal.returns-clause-source_faults
+returns-clause-source_faults g c = source_finished c.read_history-ended.result c.finish_history-status.result c.read_history-ended.new.replies.bytes (g.K.Sink.written c.read_history-ended.new.sink) (g.K.Sink.written c.finish_history-status.new.sink) (g.K.Sink.faults c.read_history-ended.new.sink) (g.K.Sink.faults c.finish_history-status.new.sink) (g.S.Source.faults c.args.source.now) (g.S.Source.faults c.read_history-ended.new.source) (rw c.bytes.ensures at c.finish_history-status.ensures) c.read_history-ended.ensures.read
+
+pub returns-clause-sink_faults : goal.returns-clause-sink_faults
+returns-clause-sink_faults g c = sink_counts c.read_history-ended.result c.finish_history-status.result c.read_history-ended.new.replies.bytes (g.K.Sink.written c.read_history-ended.new.sink) (g.K.Sink.written c.finish_history-status.new.sink) (g.K.Sink.faults c.args.sink.now) (g.K.Sink.faults c.read_history-ended.new.sink) (g.K.Sink.faults c.finish_history-status.new.sink) c.read_history-ended.ensures.sent (rw c.bytes.ensures at c.finish_history-status.ensures)
+
+pub returns-clause-store_faults : goal.returns-clause-store_faults
+returns-clause-store_faults g c =
+    rw (c.into_nodes.ensures, ← c.in-Ok.ensures.nodes) (store_finished c.read_history-ended.result c.finish_history-status.result c.read_history-ended.new.replies.bytes (g.K.Sink.written c.read_history-ended.new.sink) (g.K.Sink.written c.finish_history-status.new.sink) (g.K.Sink.faults c.read_history-ended.new.sink) (g.K.Sink.faults c.finish_history-status.new.sink) (g.N.Texts.store.faults c.in-Ok.shard.nodes) (g.N.Texts.store.faults c.read_history-ended.new.shard.nodes) (rw c.bytes.ensures at c.finish_history-status.ensures) c.read_history-ended.ensures.stored)
+
+pub returns-in-Err-clause-ends : goal.returns-in-Err-clause-ends
+returns-in-Err-clause-ends g c = each_input (g.S.Source.left c.args.source.now) (λ input. EndsRun g.N.Texts.store g.N.Nodes.count_of (live_behind (script_outcome (apply_script (run_limits c.args.limits.now)) input)) c.args.nodes c.in-Err.nodes (g.K.Sink.written c.args.sink.now) (g.K.Sink.written c.args.sink.now) NoMemory)
+    (λ input. never_begun g.N.Texts.store g.N.Nodes.count_of (live_behind (script_outcome (apply_script (run_limits c.args.limits.now)) input)) c.args.nodes c.in-Err.nodes (g.K.Sink.written c.args.sink.now) c.in-Err.ensures.back)

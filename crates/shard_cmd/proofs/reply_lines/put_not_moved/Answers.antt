@@ -3,7 +3,8 @@ use Rattle.std.specs.Prelude.{codes}
 use Rattle.std.specs.Option.{unwrap_or}
 use Rattle.hex.specs.Hex.{encode_lower}
 use Rattle.script_model.specs.Lines.{line_feed}
-use Rattle.shard_cmd.proofs.Histories.{appended, line_put}
+use Rattle.shard_cmd.proofs.Answered.{appended}
+use Rattle.shard_cmd.proofs.Histories.{line_put}
 use Rattle.shard_cmd.proofs.reply_lines.put_not_moved.Goals as goal
 
 pub returns : goal.returns
