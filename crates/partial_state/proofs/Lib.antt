@@ -1,6 +1,10 @@
-pub mod Answers
+pub mod Refusals
 pub mod Keys
 pub mod Batches
 pub mod Changes
 pub mod Recordings
 pub mod Written
+pub mod Carried
+pub mod Looked
+pub mod Spares
+pub mod Strangers

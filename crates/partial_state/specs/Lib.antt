@@ -4,3 +4,5 @@
 pub mod Operations
 -- recordings that are read
 pub mod Recordings
+-- what is answered where reads and a batch are carried out, and where a recording is replayed
+pub mod Replays

@@ -2,18 +2,27 @@
 //! and changes are gathered, and how recordings are read from bytes and written.
 #![tactic(auto)]
 
+mod answers;
+mod carrying;
 mod fields;
 mod laws;
 mod ops;
 mod proof;
 mod proof_error;
+mod prove_error;
 mod reading;
+mod replaying;
 mod writing;
 
+pub use answers::Answers;
 pub use laws::most_reads_are_those_of_the_definition;
 pub use ops::{MOST_READS, Ops};
 pub use proof::Proof;
 pub use proof_error::ProofError;
+pub use prove_error::ProveError;
+pub use replaying::{ReplayError, Replayed, replay};
 
+#[cfg(test)]
+mod replay_tests;
 #[cfg(test)]
 mod tests;

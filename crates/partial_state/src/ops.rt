@@ -1,8 +1,8 @@
-ghost use Rattle.std.specs.Prelude.{◌≡◌, ◌≤◌, [], Err, Some, None, OnOk, OnErr, IfSome, IfNone, IsOkUnless};
-ghost use Rattle.std.specs.FinMap.{empty};
+ghost use Rattle.std.specs.Prelude.{◌≡◌, ◌≤◌, [], length, Err, Some, None, OnOk, OnErr, IfSome, IfNone, IsOkUnless};
+ghost use Rattle.std.specs.FinMap.{empty, entries};
 ghost use Rattle.byte_model.specs.Nibbles.{AreBytes};
 ghost use Rattle.batch_model.specs.Changes.{most_changes};
-ghost use Rattle.base_core.specs.ChangeMaps.{change_refusal};
+ghost use Rattle.base_core.specs.ChangeMaps.{IsChangeMap, change_refusal};
 ghost use Rattle.base_core.specs.declared.put_error.PutError.TheVariants.{NoMemory};
 ghost use Rattle.partial_state.specs.Operations.{AreReads, read_refusal, refusal_of_read, with_read, with_change};
 
@@ -97,6 +97,14 @@ impl Ops {
         ensures held { AreReads self.now.reads }
     {
         self.reads.as_slice()
+    }
+
+    /// How many keys are changed.
+    pub(crate) fn changed(&self) -> u64
+        ensures changed { result ≡ length (entries self.now.batch.changes) }
+        ensures held { IsChangeMap self.now.batch }
+    {
+        self.changes.len()
     }
 
     /// The changes.

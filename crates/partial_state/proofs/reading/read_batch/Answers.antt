@@ -2,7 +2,7 @@ use Rattle.std.proofs.Common.{rules, ◌≡◌, ◌<◌, None}
 use Rattle.std.specs.Option.{option_copied}
 use Rattle.std.specs.FinMap.{entries}
 use Rattle.partial_model.specs.Recording.{change_at, changes_from}
-use Rattle.partial_state.proofs.Answers.{refused_reads}
+use Rattle.partial_state.proofs.Refusals.{refused_reads}
 use Rattle.partial_state.proofs.Batches.{KeepsBatch-init, KeepsBatch-more, ReadsBatch-all, ReadsBatch-fault}
 use Rattle.partial_state.proofs.reading.read_batch.Goals as goal
 

@@ -2,7 +2,7 @@ use Rattle.std.proofs.Common.{◌≡◌, true, false, Err, sym, ap, ◌∙◌}
 use Rattle.std.specs.Option.{option_copied}
 use Rattle.byte_model.specs.Nibbles.{longest_key}
 use Rattle.partial_model.specs.Recording.{head, vector_within, becomes_at, follows, change_at}
-use Rattle.partial_state.proofs.Answers.{refused_reads}
+use Rattle.partial_state.proofs.Refusals.{refused_reads}
 use Rattle.partial_state.proofs.Changes.{no_key, not_above, no_becomes, change_read}
 use Rattle.partial_state.proofs.reading.read_change.Goals as goal
 

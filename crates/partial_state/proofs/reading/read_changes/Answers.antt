@@ -1,7 +1,7 @@
 use Rattle.std.proofs.Common.{None}
 use Rattle.batch_model.specs.Changes.{most_changes}
 use Rattle.partial_model.specs.Recording.{count_within, changes_from, changes_at}
-use Rattle.partial_state.proofs.Answers.{refused_reads, reads_onward}
+use Rattle.partial_state.proofs.Refusals.{refused_reads, reads_onward}
 use Rattle.partial_state.proofs.Changes.{no_count, counted}
 use Rattle.partial_state.proofs.reading.read_changes.Goals as goal
 

@@ -1,7 +1,7 @@
 use Rattle.std.proofs.Common.{rules, ◌≡◌, ◌<◌, ◌+◌, ◌++◌, ◌∷◌, [], List, ℕ, sym, ap, subst, ◌∙◌}
 use Rattle.byte_model.specs.Nibbles.{longest_key}
 use Rattle.partial_model.specs.Recording.{IsKey, vector_within, keys_at}
-use Rattle.partial_state.proofs.Answers.{refused_reads}
+use Rattle.partial_state.proofs.Refusals.{refused_reads}
 use Rattle.partial_state.proofs.Keys.{ReadsKeys, ReadsKeys-more, ReadsKeys-all, ReadsKeys-fault}
 use Rattle.partial_state.proofs.reading.read_keys.Goals as goal
 

@@ -1,5 +1,5 @@
 use Rattle.partial_model.specs.Recording.{most_reads, count_within, keys_at, reads_at}
-use Rattle.partial_state.proofs.Answers.{refused_reads, reads_onward}
+use Rattle.partial_state.proofs.Refusals.{refused_reads, reads_onward}
 use Rattle.partial_state.proofs.Keys.{no_count, counted}
 use Rattle.partial_state.proofs.reading.read_reads.Goals as goal
 

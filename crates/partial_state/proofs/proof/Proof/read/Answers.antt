@@ -8,7 +8,7 @@ use Rattle.base_core.proofs.KeptMaps.{are_bytes}
 use Rattle.partial_state.specs.declared.proof_error.ProofError.TheVariants.{Frame}
 use Rattle.partial_state.specs.Operations.{Operations}
 use Rattle.partial_state.specs.Recordings.{passed, recording_of}
-use Rattle.partial_state.proofs.Answers.{refused_alike}
+use Rattle.partial_state.proofs.Refusals.{refused_alike}
 use Rattle.partial_state.proofs.Recordings.{Begins, no_root, no_reads, no_changes, state_refused, left_over, all_read, answers_refused, spelled_by}
 use Rattle.partial_state.proofs.proof.Proof.read.Goals as goal
 

@@ -1,0 +1,10 @@
+pub mod StateReads
+pub mod More
+pub mod MoreBatches
+pub mod Filled
+pub mod VisitedTexts
+pub mod Sound
+pub mod TouchedTexts
+pub mod ReadTexts
+pub mod Exact
+pub mod Used
