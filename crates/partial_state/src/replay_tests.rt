@@ -10,11 +10,10 @@ use text_store::{TextSet, write_partial};
 /// The key 62 is deleted.
 const DELETION: [u8; 14] = [0, 0, 0, 0, 1, 0, 0, 0, 1, 0, 0, 0, 0x62, 0];
 
-/// A leaf with this path, the value of one byte, and its usage.
-fn leaf(alloc: Global, path: &[u8], value: &[u8], usage: u64) -> Result<Text, AllocError> {
+/// A leaf that begins with its spelled path, with the value of one byte and its usage.
+fn leaf(alloc: Global, head: &[u8], value: &[u8], usage: u64) -> Result<Text, AllocError> {
     let mut writer = Writer::new(alloc);
-    writer.put_u8(0)?;
-    writer.put_bytes(path)?;
+    writer.put_raw(head)?;
     writer.put_raw(&[1, 0, 0, 0])?;
     writer.put_raw(&digest(value).0)?;
     writer.put_u64(usage)?;
@@ -22,11 +21,11 @@ fn leaf(alloc: Global, path: &[u8], value: &[u8], usage: u64) -> Result<Text, Al
 }
 
 fn leaf_a(alloc: Global) -> Result<Text, AllocError> {
-    leaf(alloc, &[0x20], b"a", 103)
+    leaf(alloc, &[0, 1, 0, 0, 0, 0x20], b"a", 103)
 }
 
 fn leaf_b(alloc: Global) -> Result<Text, AllocError> {
-    leaf(alloc, &[0x20], b"b", 103)
+    leaf(alloc, &[0, 1, 0, 0, 0, 0x20], b"b", 103)
 }
 
 fn branch(alloc: Global) -> Result<Text, AllocError> {
@@ -87,7 +86,7 @@ fn a_deletion_is_replayed(rt: HostRuntime) -> Result<(), Fail> {
     let alloc = rt.alloc();
     let set = nodes_but(alloc, 4)?;
     let replayed = replay_of(alloc, &DELETION, &set).ok().ok_or("refused")?;
-    let alone = leaf(alloc, &[0x20, 0x61], b"a", 105)?;
+    let alone = leaf(alloc, &[0, 2, 0, 0, 0, 0x20, 0x61], b"a", 105)?;
     assert_eq!(rt; replayed.root, digest(alone.as_slice()));
     assert_eq!(rt; replayed.answers.len(), 0);
     Ok(())
