@@ -1,5 +1,7 @@
 -- How a run ends, by what was written last.
 use Rattle.std.proofs.Common.{◌≡◌, ◌≢◌, ◌≤◌, ℕ, List, Option, Some, None, Result, Ok, IfOk, IfSome, inl, inr, refl, sym, ap, subst, ◌∙◌, arith}
+use Rattle.base_core.specs.declared.hash.Digest.{Digest}
+use Rattle.script_model.specs.Bounds.{IsCommanded, IsKey}
 use Rattle.script_model.specs.Words.{Command, command_of}
 use Rattle.output_model.specs.Root.{root_output}
 use Rattle.output_model.specs.Ends.{Output, Ending, RunLimits}
@@ -7,6 +9,7 @@ use Rattle.fork_model.specs.States.{ForkState}
 use Rattle.output_model.specs.Scripts.{Outcome}
 use Rattle.output_model.specs.Output.{outcome_of, command_outcome}
 use Rattle.script_io.specs.declared.command.Command.{Command as Asked}
+use Rattle.script_io.specs.declared.command.Command.TheVariants.{Get}
 use Rattle.script_io.specs.Meanings.{command}
 use Rattle.shard_cmd.specs.declared.reply.Reply.{Reply}
 use Rattle.shard_cmd.specs.declared.status.Status.{Status}
@@ -78,3 +81,8 @@ store_fell status.WriteFault faults now (inl e) = omega (arith, e)
 store_fell status.WriteFault faults now (inr e) = omega (arith, e)
 store_fell status.StoreFault faults now e = omega (arith, e)
 store_fell status.Clash faults now e = omega (arith, e)
+
+-- the key that the words of `get` name
+pub got_key : {E : Type 0} (r : Result Asked E) (id : Digest) (key : List ℕ) → r ≡ Ok (Get id key) → IfOk r (λ found. IsCommanded (command found)) → IsKey key
+unfolding IsCommanded
+got_key {E} r id key is h = (subst (λ (r : Result Asked E). IfOk r (λ found. IsCommanded (command found))) is h).1

@@ -11,7 +11,7 @@ use Rattle.shard_cmd.specs.Ends.{ending_of, run_ended, run_limits, EndsAs, HasEn
 use Rattle.shard_cmd.specs.HandedBack.{EndsRun, IfSettled, HoldsBlocks}
 use Rattle.shard_cmd.specs.declared.status.Status.TheVariants.{NoMemory, Usage}
 use Rattle.shard_cmd.proofs.Answered.{no_loads}
-use Rattle.shard_cmd.proofs.Runs.{by_command, by_input, each_input, told, has_ending, command_read, store_fell, store_same}
+use Rattle.shard_cmd.proofs.Runs.{by_command, by_input, each_input, told, has_ending, command_read, got_key, store_same}
 use Rattle.shard_cmd.proofs.running.run.Goals as goal
 
 pub returns-in-Ok-Apply-clause-output : goal.returns-in-Ok-Apply-clause-output
@@ -122,3 +122,6 @@ returns-in-Err-Bad-clause-root_no_store_fault g c = λ asked. let other = sym as
 
 pub returns-in-Err-Bad-clause-root_source_faults : goal.returns-in-Err-Bad-clause-root_source_faults
 returns-in-Err-Bad-clause-root_source_faults g c = λ asked. let other = sym asked ∙ c.in-Err-Bad.ensures.bad (ap Err c.in-Err-Bad.field-0-is) in absurd (cc other)
+
+pub run_get-requires-clause-key : goal.run_get-requires-clause-key
+run_get-requires-clause-key g c = rw c.as_slice.ensures ((got_key c.read_command.result c.in-Ok-Get.id c.in-Ok-Get.key (c.in-Ok-Get.is ∙ ap Ok c.in-Ok-Get.field-0-is) c.read_command.ensures.within).short)
