@@ -166,16 +166,20 @@ fn loaded(shard: &Shard<MemNodes>) -> u64 {
     shard.tries.nodes.loads()
 }
 
-/// A copy of the text of a digest.
-fn text_of(
-    alloc: Global,
-    shard: &mut Shard<MemNodes>,
-    name: &Digest,
-) -> Result<Option<Text>, AllocError> {
-    match shard.tries.nodes.load(name) {
-        Ok(Some(text)) => Ok(Some(Text::copy(alloc, text)?)),
-        _ => Ok(None),
+/// The text of the leaf of a state with one pair.
+fn leaf_of(alloc: Global, key: &[u8], value: &[u8]) -> Result<Text, Fail> {
+    let mut store = MemNodes::new(alloc, &[])?;
+    let changes = one_set(alloc, key, value)?;
+    let Ok(change) = update(alloc, &mut store, &Digest::ZERO, &changes) else {
+        return Err(Fail::new("a batch was refused"));
+    };
+    for place in 0..change.made.len() {
+        let text = change.made.at(place);
+        if text.digest == change.root {
+            return Ok(Text::copy(alloc, text.text.as_slice())?);
+        }
     }
+    Err(Fail::new("there is no leaf"))
 }
 
 /// Two keys are set, and one of them is deleted over that. The head passes both blocks.
@@ -228,12 +232,8 @@ fn two_forks_alike(rt: HostRuntime) -> Result<(), Fail> {
 fn a_leaf_as_a_value(rt: HostRuntime) -> Result<(), Fail> {
     let alloc = rt.alloc();
     let mut shard = start(alloc, &[], Limits::FULL)?;
-    let Ok(Applied { root }) = offer(&mut shard, 1, 0, one_set(alloc, b"a", b"a")?) else {
-        return Err(Fail::new("a block was refused"));
-    };
-    let Some(leaf) = text_of(alloc, &mut shard, &root)? else {
-        return Err(Fail::new("the leaf is not there"));
-    };
+    let leaf = leaf_of(alloc, b"a", b"a")?;
+    assert!(rt; offer(&mut shard, 1, 0, one_set(alloc, b"a", b"a")?).is_ok());
     let changes = one_set(alloc, b"b", leaf.as_slice())?;
     assert!(rt; offer(&mut shard, 2, 0, changes).is_ok());
     assert_eq!(rt; counted(&shard, leaf.as_slice()), 2);
