@@ -306,7 +306,7 @@ fn at_nibbles<T: Texts>(
 {
     let (here, mut rest) = ending(changes, depth);
     let value = value_after(alloc, ledger, former, here)?;
-    let mut children = Vec::new(alloc);
+    let mut children = room_for_children(alloc)?;
     let mut stated = 0u64;
     for nibble in 0..16 {
         let (run, others) = rest.split_at(run_length(rest, depth, nibble));
@@ -317,6 +317,17 @@ fn at_nibbles<T: Texts>(
         push(&mut children, child)?;
     }
     Ok((Left { value, children }, stated))
+}
+
+/// No children yet, with room for those at all sixteen nibbles.
+fn room_for_children(alloc: Global) -> Result<Vec<Child>, UpdateError>
+    ensures items { IfOk result (λ children. children.items ≡ []) }
+    ensures error { IfErr result (λ error. error ≡ NoMemory) }
+{
+    match Vec::with_capacity(alloc, 16) {
+        Ok(children) => Ok(children),
+        Err(_) => Err(UpdateError::NoMemory),
+    }
 }
 
 fn push(children: &mut Vec<Child>, child: Child) -> Result<(), UpdateError>

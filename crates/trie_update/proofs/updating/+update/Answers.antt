@@ -755,7 +755,7 @@ at_nibbles-loop-nibble-init g t c =
     let ref = option_map value_of c.args.former in
     let table = store.texts c.args.store.now in
     let places = place_behind table c.args.depth c.args.parent.now in
-    subst (λ items. IsGathered store c.args.depth ref places c.args.changes.now c.ending.result.1.now 0 items 0 c.args.store.now c.args.store.now c.args.ledger.now c.value_after.new.ledger) (sym c.new-children.ensures.items)
+    subst (λ items. IsGathered store c.args.depth ref places c.args.changes.now c.ending.result.1.now 0 items 0 c.args.store.now c.args.store.now c.args.ledger.now c.value_after.new.ledger) (sym c.in_ok-children.ensures.items)
     (gathered-none store c.args.depth ref places c.args.changes.now c.ending.result.1.now c.args.store.now c.args.ledger.now c.value_after.new.ledger c.ending.result.0 c.ending.ensures.value c.ending.ensures.left c.ending.ensures.fewer c.requires.named c.in_ok-value.ensures.grows c.in_ok-value.ensures.names (g.met.T.Texts.alike_itself c.args.store.now))
 
 pub at_nibbles-loop-nibble-preserved : goal.at_nibbles-loop-nibble-preserved
