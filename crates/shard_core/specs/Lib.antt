@@ -14,3 +14,5 @@ pub mod Answers
 pub mod Shards
 -- what its calls answer and leave
 pub mod ShardAnswers
+-- a shard as a store of texts
+pub mod Loaded

@@ -10,6 +10,7 @@ mod ledger;
 mod occurrences;
 mod releasing;
 mod shard;
+mod texts;
 mod tries;
 
 pub use block::{Applied, Block, HeadMoved, Stats};
