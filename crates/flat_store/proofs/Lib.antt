@@ -26,3 +26,5 @@ pub mod Planned
 pub mod Counts
 -- a tree and what is kept of its blocks, changed together
 pub mod Together
+-- the index
+pub mod Listing

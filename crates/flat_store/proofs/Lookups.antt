@@ -7,20 +7,16 @@ use Rattle.batch_model.specs.Changes.{Changes, decided}
 use Rattle.batch_model.proofs.Laying.{get-after}
 use Rattle.base_core.proofs.ByteMaps.{order}
 use Rattle.fork_model.specs.Trees.{BlockTree, IsTree, is_live, prev_of}
-use Rattle.flat_store.specs.Flats.{Deltas, FlatState, delta_of, map_of}
+use Rattle.flat_store.specs.Flats.{Deltas, FlatState, IsOnWay, delta_of, map_of}
 use Rattle.base_core.specs.ChangeMaps.{ChangeMap}
-use Rattle.flat_store.specs.Kept.{Batches, deltas_of}
+use Rattle.flat_store.specs.Kept.{Batches, change_at, deltas_of}
 use Rattle.flat_store.proofs.Tables.{batch_at, get-deltas}
 use Rattle.flat_store.proofs.Ways.{map-at_head, map-over, one-step}
 
 abbrev Value : Type 0
 Value = Option (List ℕ)
 
--- what a block's changes make of a key
-abbrev pub change_at : Deltas → (id key : List ℕ) → Option Value
-change_at deltas id key = option_and_then (λ changes. get changes key) (get deltas id)
-
-change-delta : (deltas : Deltas) (id key : List ℕ) → get (delta_of deltas id) key ≡ change_at deltas id key
+pub change-delta : (deltas : Deltas) (id key : List ℕ) → get (delta_of deltas id) key ≡ change_at deltas id key
 change-delta deltas id key = by_case (get deltas id)
   where
     by_case : (o : Option Changes) → get (unwrap_or o empty) key ≡ option_and_then (λ changes. get changes key) o
@@ -33,12 +29,6 @@ change-found es id key m e = ap (option_and_then (λ (changes : Changes). get ch
 
 pub change-missing : (es : Batches) (id key : List ℕ) → batch_at es id ≡ None → change_at (deltas_of es) id key ≡ None
 change-missing es id key e = ap (option_and_then (λ (changes : Changes). get changes key)) (get-deltas es id ∙ ap (option_map (λ (m : ChangeMap). m.changes)) e)
-
--- The key has in the map of the block where the way stands what it has in that of the block at its begin.
-pub record IsOnWay (tree : BlockTree) (flat : FlatState) (key id at : List ℕ) : Type 0 where
-  pub told : get (map_of flat tree at) key ≡ get (map_of flat tree id) key
-  pub first : is_live tree id ≡ true
-  pub live : is_live tree at ≡ true
 
 pub way-start : (tree : BlockTree) (flat : FlatState) (key id : List ℕ) → is_live tree id ≡ true → IsOnWay tree flat key id id
 way-start tree flat key id live = record { told = refl; first = live; live = live }

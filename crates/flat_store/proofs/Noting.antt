@@ -55,7 +55,7 @@ noted-new m n key value new put q = ap (λ (c : Changes). get c q) put ∙ get-i
 
 -- ---- row by row
 
-abbrev Row : Type 0
+abbrev pub Row : Type 0
 Row = Bor (List ℕ) × Option (Bor (List ℕ))
 
 abbrev pub shown : List Row → List Change

@@ -22,7 +22,7 @@ option_map-itself (Some x) = refl
 
 -- ---- by keys
 
-abbrev items_of : Vec ℕ Global → List ℕ
+abbrev pub items_of : Vec ℕ Global → List ℕ
 items_of k = k.items
 
 abbrev pub same_items : Vec ℕ Global → Vec ℕ Global → Bool

@@ -1,5 +1,5 @@
 -- A tree and what is kept of its blocks, as both are changed together.
-use Rattle.std.proofs.Common.{◌≡◌, ℕ, ◌+◌, ◌≤◌, ◌<◌, Bool, true, false, cond, List, length, map, Option, None, Some, is_some, refl, sym, ap, subst, ◌∙◌, arith}
+use Rattle.std.proofs.Common.{◌≡◌, ℕ, ◌≤◌, ◌<◌, Bool, true, false, cond, List, length, Option, None, Some, is_some, refl, sym, ap, subst, ◌∙◌, arith}
 use Rattle.std.proofs.lemmas.List.{length-map}
 use Rattle.std.specs.Option.{option_map}
 use Rattle.std.specs.Str.{bytes_eq}
@@ -9,12 +9,11 @@ use Rattle.trie_model.specs.Root.{zero_digest}
 use Rattle.batch_model.specs.Changes.{Changes}
 use Rattle.base_core.specs.Bounds.{most_blocks, most_pairs}
 use Rattle.base_core.proofs.ByteMaps.{order}
-use Rattle.fork_model.specs.Trees.{BlockTree, BlockFault, Header, IsTree, after_block, block_fault, block_of, grown, grown_unless, is_live, moved, prev_of, start}
+use Rattle.fork_model.specs.Trees.{BlockTree, BlockFault, Header, IsTree, after_block, block_fault, block_of, grown, grown_unless, moved, start}
 use Rattle.fork_model.specs.States.{Block, ForkState, IsForkState, after_offer, block_at, first_fork, head_moved, tree_of_blocks, with_block, with_block_unless}
 use Rattle.fork_model.proofs.Faults.{accepted}
 use Rattle.fork_model.proofs.Passed.{passed-head}
 use Rattle.fork_model.proofs.States.{after_offer-keeps, block_of-at, first-is, head_moved-keeps, tree-after_offer, tree-moved}
-use Rattle.fork_model.proofs.Told.{found_live}
 use Rattle.fork_tree.specs.Answers.{IsPlan}
 use Rattle.fork_tree.specs.declared.ids.Move.{Move}
 use Rattle.flat_store.specs.Flats.{AreOfOne, FlatState, HasSameBlocks, IsFlatOf, laid_over, map_of}

@@ -1,5 +1,5 @@
 -- What is kept of the live blocks: the map of the head, and the changes of each other block (this project's own, after nearcore's flat storage).
-use Rattle.std.specs.Prelude.{◌≡◌, ℕ, List, [], ◌∷◌, sum_by, length, Option, None, Some, is_some, if◌then◌else◌, refl}
+use Rattle.std.specs.Prelude.{◌≡◌, ℕ, true, List, [], ◌∷◌, sum_by, length, Option, None, Some, is_some, if◌then◌else◌, refl}
 use Rattle.std.specs.Option.{unwrap_or}
 use Rattle.std.specs.Ordering.{nat_cmp}
 use Rattle.std.specs.Cmp.Lexicographic.{slice_cmp}
@@ -9,7 +9,7 @@ use Rattle.std.specs.FinMap.{FinMap, entries, empty, get}
 use Rattle.std.specs.Coded.{Coded, code_by, coded×, coded_ℕ, coded_list, coded_option}
 use Rattle.trie_model.specs.State.{State}
 use Rattle.batch_model.specs.Changes.{Changes, after}
-use Rattle.fork_model.specs.Trees.{BlockTree, is_among, passed, prev_of}
+use Rattle.fork_model.specs.Trees.{BlockTree, is_among, is_live, passed, prev_of}
 use Rattle.fork_model.specs.States.{ForkState, IsForkState, changes_at, state_at, tree_of_blocks}
 
 -- the changes of blocks, by their ids
@@ -48,6 +48,12 @@ laid_over deltas (id ∷ ids) state = laid_over deltas ids (after state (delta_o
 -- The map of a live block: that of the head, with the changes of all blocks laid over that a move to it passes.
 abbrev pub map_of : FlatState → BlockTree → List ℕ → State
 map_of flat tree id = laid_over flat.deltas (passed tree id) flat.head
+
+-- The key has in the map of the block where the way stands what it has in that of the block at its begin.
+pub record IsOnWay (tree : BlockTree) (flat : FlatState) (key id at : List ℕ) : Type 0 where
+  pub told : get (map_of flat tree at) key ≡ get (map_of flat tree id) key
+  pub first : is_live tree id ≡ true
+  pub live : is_live tree at ≡ true
 
 -- what is left of a block's changes, where those of some blocks go
 abbrev pub left_of : (gone : List (List ℕ)) → (id : List ℕ) → Option Changes → Option Changes

@@ -6,9 +6,10 @@ ghost use Rattle.fork_model.specs.Trees.{BlockTree, Header, IsTree, block_fault,
 ghost use Rattle.fork_model.specs.States.{ForkState, IsForkState, first_fork, head_moved, kept_changes, state_at, state_over, tree_of_blocks, with_block};
 ghost use Rattle.base_core.specs.Bounds.{most_blocks, most_pairs};
 ghost use Rattle.fork_tree.specs.Answers.{IsPlan};
-ghost use Rattle.flat_store.specs.Flats.{HasSameBlocks, IsFlatOf, keys_changed, laid_over, left_of, map_of};
+ghost use Rattle.flat_store.specs.Flats.{HasSameBlocks, IsFlatOf, IsOnWay, keys_changed, laid_over, left_of, map_of};
 
 use crate::errors::{PairsError, PairsOverError};
+use crate::lists::{listed, settle, sweep, waits};
 use crate::maps::{note, note_way, pairs_of};
 use crate::moves::{forget, keys_in, lay_passed};
 use base_core::{Changes, Digest, Limits, Pairs, Text};
@@ -24,12 +25,20 @@ use std::marker::Model;
 pub struct Flat {
     head: HashMap<Vec<u8>, Text>,
     deltas: HashMap<Digest, Changes>,
+    /// Of each key the blocks whose deltas change it, in the order in which they were added. Blocks
+    /// without a delta may stand among them.
+    lists: HashMap<Vec<u8>, Vec<Digest>>,
+    /// The block that was added last, while it is not listed.
+    newest: Option<Digest>,
+    /// How many keys had a list after the last sweep.
+    swept: usize,
+    alloc: Global,
 }
 
 impl Model for Flat {
     ghost use Rattle.std.specs.HashMap.{spare};
     ghost use Rattle.flat_store.specs.Flats.{FlatState, flat_state_code};
-    ghost use Rattle.flat_store.specs.Kept.{IsKept, deltas_of, head_of};
+    ghost use Rattle.flat_store.specs.Kept.{IsKept, deltas_of, head_of, room};
 
     ghost Value = { FlatState };
 
@@ -38,10 +47,10 @@ impl Model for Flat {
     ghost view = { λ s. record {
       head = head_of s.head.entries;
       deltas = deltas_of s.deltas.entries;
-      spare = spare s.deltas;
+      spare = room s.newest (spare s.deltas);
     } };
 
-    ghost invariant = { λ s. IsKept s.head.entries s.deltas.entries };
+    ghost invariant = { λ s. IsKept s.newest s.head.entries s.deltas.entries s.lists.entries };
 }
 
 impl Flat {
@@ -54,11 +63,15 @@ impl Flat {
         Ok(Flat {
             head: HashMap::new(alloc),
             deltas: HashMap::new(alloc),
+            lists: HashMap::new(alloc),
+            newest: None,
+            swept: 0,
+            alloc,
         })
     }
 
-    /// What a key has in the map of a live block. It takes no memory, and time by the number of
-    /// blocks from the head to that block.
+    /// What a key has in the map of a live block. It takes no memory, and time by the changes of
+    /// that key, with few steps for each block on the way to the head.
     pub fn get(&self, forks: &Forks, id: &Digest, key: &[u8]) -> Result<Option<&[u8]>, NotLive>
         requires { HasSameBlocks forks.now.tree self.now.deltas }
         ensures not_live { IsErr result ↔ (is_live forks.now.tree id.now.0 ≡ false) }
@@ -68,7 +81,8 @@ impl Flat {
         if !forks.is_live(id) {
             return Err(NotLive);
         }
-        let mut at = *id;
+        // The nearest block that changes the key, but for blocks that stay listed for a while.
+        let mut at = self.nearest(forks, id, key);
         while let Some(prev) = forks.prev_of(&at) {
             if let Some(value) = self.change(&at, key) {
                 return Ok(value);
@@ -81,6 +95,19 @@ impl Flat {
         }
     }
 
+    /// A block on the way from a live one to the head, before which no delta on the way changes the
+    /// key.
+    fn nearest(&self, forks: &Forks, id: &Digest, key: &[u8]) -> Digest
+        requires tree { IsTree forks.now.tree }
+        requires live { is_live forks.now.tree id.now.0 ≡ true }
+        ensures { IsOnWay forks.now.tree self.now key.now id.now.0 result.0 }
+    {
+        if waits(self.newest, &self.deltas, key) {
+            return *id;
+        }
+        forks.nearest(id, listed(&self.lists, key))
+    }
+
     /// What a key becomes by the delta of a block, if it has one that changes the key.
     fn change(&self, id: &Digest, key: &[u8]) -> Option<Option<&[u8]>>
         ensures { option_map option_copied result ≡ option_and_then (λ changes. get changes key.now) (get self.now.deltas id.now.0) }
@@ -91,7 +118,8 @@ impl Flat {
         }
     }
 
-    /// Makes room for the delta of one more block.
+    /// Makes room for the delta of one more block. The one that was added last is laid into the
+    /// index before.
     pub fn reserve(&mut self) -> Result<(), AllocError>
         ensures room { OnOk result (1 ≤ self.new.spare) }
         ensures least_room { self.old.spare ≤ self.new.spare }
@@ -99,6 +127,8 @@ impl Flat {
         ensures deltas { self.new.deltas ≡ self.old.deltas }
         ensures state { (blocks : ForkState) → IsFlatOf blocks self.old → IsFlatOf blocks self.new }
     {
+        settle(self.alloc, &mut self.lists, &self.deltas, self.newest)?;
+        self.newest = None;
         self.deltas.reserve(1)
     }
 
@@ -112,6 +142,7 @@ impl Flat {
         ensures room { self.old.spare ≤ self.new.spare + 1 }
         ensures state { (most : ℕ) (blocks : ForkState) (header : Header) → header.id ≡ id.0 → block_fault most (tree_of_blocks blocks) header ≡ None → IsFlatOf blocks self.old → IsFlatOf (with_block blocks header changes.changes) self.new }
     {
+        self.newest = Some(id);
         match self.deltas.insert(id, changes) {
             Ok(_) => {}
             // There is room.
@@ -134,6 +165,7 @@ impl Flat {
         self.head.reserve(keys_in(&self.deltas, &m.passed))?;
         lay_passed(&mut self.head, &mut self.deltas, &m.passed);
         forget(&mut self.deltas, &m.dropped);
+        self.swept = sweep(&mut self.lists, &self.deltas, self.swept);
         Ok(())
     }
 

@@ -5,6 +5,7 @@
 mod errors;
 mod flat;
 mod laws;
+mod lists;
 mod maps;
 mod moves;
 

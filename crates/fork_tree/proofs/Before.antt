@@ -1,8 +1,10 @@
 -- The place before that of a block: that of its prev.
-use Rattle.std.proofs.Common.{◌≡◌, ℕ, ◌<◌, List, [], None, Some, sym, ◌∙◌, ap, arith}
+use Rattle.std.proofs.Common.{◌≡◌, ℕ, ◌<◌, Bool, true, List, [], length, get_or, None, Some, sym, ◌∙◌, ap, arith}
 use Rattle.std.specs.Option.{option_map}
+use Rattle.std.specs.Prelude.{nat_eq}
+use Rattle.std.specs.Cmp.Lexicographic.{bytes_decides, pointwise}
 use Rattle.std.specs.List.{slice_get}
-use Rattle.std.proofs.lemmas.Option.{get_or_from_slice_get, slice_get-map}
+use Rattle.std.proofs.lemmas.Option.{get_or_from_slice_get, slice_get-get_or, slice_get-map}
 use Rattle.base_core.specs.declared.hash.Digest.{Digest}
 use Rattle.fork_model.specs.Trees.{Header, block_of, ids_of}
 use Rattle.fork_model.proofs.Ids.{found-key}
@@ -48,3 +50,12 @@ module _ (blocks : List Block) (entries : List (Digest × ℕ)) (kept : IsKept b
   prev-id n at =
       let s = placed-at blocks entries kept x.prev.0 n at in
       id-at blocks n s.block s.is ∙ sym (block_of-id (headers blocks) x.prev.0 s.block s.found) ∙ sym (prev-at blocks place (header_of x) (block_at_place blocks place x is))
+
+-- the place of an id that stands there, if it is that of a prev
+pub prev-near : (blocks : List Block) (near place : ℕ) (d e : Block) → near < length blocks → place < length blocks → (get_or blocks near d).id.0 ≡ (get_or blocks place e).prev.0 → id_at blocks near ≡ prev_at blocks place
+prev-near blocks near place d e within there same =
+    id-at blocks near _ (block_at_place blocks near _ (slice_get-get_or blocks near d within)) ∙ same ∙ sym (prev-at blocks place _ (block_at_place blocks place _ (slice_get-get_or blocks place e there)))
+
+-- what a comparison in the code tells
+pub same_by_eq : (a b : List ℕ) (r : Bool) → r ≡ true → r ≡ pointwise nat_eq a b → a ≡ b
+same_by_eq a b r e is = (bytes_decides a b).0 (sym is ∙ e)

@@ -16,3 +16,5 @@ pub mod Fates
 pub mod Planned
 -- a move that is carried out
 pub mod Leaving
+-- the nearest of some blocks on a way
+pub mod Searching

@@ -2,3 +2,5 @@
 pub mod Kept
 -- what calls answer
 pub mod Answers
+-- the nearest of some blocks
+pub mod Nearest

@@ -1,13 +1,15 @@
-ghost use Rattle.std.specs.Prelude.{◌≡◌, ◌+◌, ◌≤◌, ℕ, List, false, length, map, IfOk, OnOk, Err, ◌↔◌, None};
+ghost use Rattle.std.specs.Prelude.{◌≡◌, ◌+◌, ◌≤◌, ℕ, List, true, false, length, map, IfOk, OnOk, Err, ◌↔◌, None};
 ghost use Rattle.std.specs.Option.{option_map};
 ghost use Rattle.fork_model.specs.Trees.{IsTree, block_fault, grown, is_live, moved, prev_of, start};
 ghost use Rattle.fork_tree.specs.Answers.{IsPlan, checked};
+ghost use Rattle.fork_tree.specs.Nearest.{IsNearest};
 
 use crate::block::Block;
 use crate::commits::{forget_all, keep_placed, put_places};
 use crate::errors::{ForkError, MoveError};
 use crate::ids::{Ids, Move};
-use crate::plans::{dropped_by, line_to};
+use crate::nearest::nearest_to;
+use crate::plans::{dropped_by, gap_to, line_to};
 use base_core::Digest;
 use std::alloc::{AllocError, Global};
 use std::collections::HashMap;
@@ -53,6 +55,7 @@ impl Forks {
             id: Digest::ZERO,
             prev: Digest::ZERO,
             height: 0,
+            gap: 0,
         };
         let mut live = Vec::new(alloc);
         live.push(head)?;
@@ -101,7 +104,13 @@ impl Forks {
         ensures room { self.old.spare ≤ self.new.spare + 1 }
     {
         let place = self.live.len();
-        match self.live.push(Block { id, prev, height }) {
+        let gap = gap_to(&self.places, &prev, place);
+        match self.live.push(Block {
+            id,
+            prev,
+            height,
+            gap,
+        }) {
             Ok(()) => {}
             // There is room.
             Err(_) => unreachable!(),
@@ -140,6 +149,21 @@ impl Forks {
             Some(place) => Some(self.live[*place].prev),
             None => None,
         }
+    }
+
+    /// The nearest of some blocks on the way from a live block to the head, that block among them,
+    /// and the head where none of them is on the way. It takes no memory, and time by the ids and
+    /// the blocks on the way, if the ids stand in the order in which the blocks were added.
+    pub fn nearest(&self, id: &Digest, ids: &[Digest]) -> Digest
+        requires { is_live self.now.tree id.now.0 ≡ true }
+        ensures { IsNearest self.now.tree (map (λ id. id.0) ids.now) id.now.0 result.0 }
+    {
+        let Some(start) = self.places.get(id) else {
+            // The block is live.
+            unreachable!()
+        };
+        let place = nearest_to(&self.live, &self.places, *start, ids);
+        self.live[place].id
     }
 
     /// How many blocks are live, the head among them. It takes no memory.

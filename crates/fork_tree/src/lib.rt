@@ -7,6 +7,7 @@ mod commits;
 mod errors;
 mod forks;
 mod ids;
+mod nearest;
 mod plans;
 
 pub use errors::{ForkError, MoveError, NotLive};

@@ -31,7 +31,7 @@ pub(crate) fn line_to(
 }
 
 /// The place of the block on which one stands that is not the head.
-fn place_before(blocks: &[Block], places: &HashMap<Digest, usize>, place: usize) -> usize
+pub(crate) fn place_before(blocks: &[Block], places: &HashMap<Digest, usize>, place: usize) -> usize
     requires kept { IsKept blocks.now places.now.entries }
     requires within { place < length blocks.now }
     requires behind { 0 < place }
@@ -39,10 +39,25 @@ fn place_before(blocks: &[Block], places: &HashMap<Digest, usize>, place: usize)
     ensures prev { id_at blocks.now result ≡ prev_at blocks.now place }
 {
     let block = &blocks[place];
+    // In most cases the gap is still right, and nothing is hashed.
+    let near = place.saturating_sub(block.gap);
+    if near < place {
+        if blocks[near].id == block.prev {
+            return near;
+        }
+    }
     match places.get(&block.prev) {
         Some(before) => *before,
         // The prev is live.
         None => unreachable!(),
+    }
+}
+
+/// How many places before a place a block stands, and 0 where it is not live.
+pub(crate) fn gap_to(places: &HashMap<Digest, usize>, id: &Digest, place: usize) -> usize {
+    match places.get(id) {
+        Some(before) => place.saturating_sub(*before),
+        None => 0,
     }
 }
 

@@ -1,6 +1,7 @@
 use Rattle.std.proofs.Common.{sym, ap, ◌∙◌}
 use Rattle.flat_store.specs.Flats.{FlatState}
-use Rattle.flat_store.proofs.Lookups.{change-found, change-missing, change_at}
+use Rattle.flat_store.specs.Kept.{change_at}
+use Rattle.flat_store.proofs.Lookups.{change-found, change-missing}
 use Rattle.flat_store.proofs.flat.Flat.change.Goals as goal
 
 pub returns-in-Some : goal.returns-in-Some

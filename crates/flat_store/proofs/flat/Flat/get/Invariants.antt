@@ -1,6 +1,6 @@
 use Rattle.std.proofs.Common.{length}
 use Rattle.fork_model.specs.Trees.{line}
-use Rattle.flat_store.proofs.Lookups.{IsOnWay}
+use Rattle.flat_store.specs.Flats.{IsOnWay}
 use Rattle.flat_store.proofs.flat.Flat.get.Given as goal
 
 abbrev pub invariant-loop-prev : goal.invariant-loop-prev
