@@ -8,3 +8,6 @@ pub mod Carried
 pub mod Looked
 pub mod Spares
 pub mod Strangers
+pub mod Limits
+pub mod Made
+pub mod Complete

@@ -1,7 +1,8 @@
 -- What is answered where reads and a batch are carried out over some texts, and where a recording is replayed.
-use Rattle.std.specs.Prelude.{◌≡◌, ℕ, List, map, Option, None, Some, Result, Ok, Err, ⊤}
+use Rattle.std.specs.Prelude.{◌≡◌, ℕ, List, map, Option, None, Some, Result, Ok, Err, Contains, ⊤}
 use Rattle.std.specs.List.{AllByRecursion}
 use Rattle.std.specs.FinMap.{get}
+use Rattle.sha2.specs.Sha256.{sha256}
 use Rattle.byte_model.specs.Nibbles.{AreBytes}
 use Rattle.trie_model.specs.State.{State}
 use Rattle.trie_model.specs.Root as trie
@@ -122,21 +123,35 @@ pub record StaysProof (old new : Proof) : Type 0 where
 
 -- ---- over the touched places of a state
 
--- The root is that of the state with the changes laid over. A clash is the least one of the texts that the batch makes.
+-- no two of these texts share a digest
+abbrev pub AreApart : List (List ℕ) → Type 0
+AreApart texts = (a b : List ℕ) → Contains texts a → Contains texts b → sha256 a ≡ sha256 b → a ≡ b
+
+-- The root is that of the state with the changes laid over, and no two of the texts that the batch makes share a digest. Else the least such clash is told.
 abbrev pub MeetsRoot : State → Changes → Result Digest ProveError → Type 0
-MeetsRoot state changes (Ok root) = root.0 ≡ trie.root (after state changes)
+MeetsRoot state changes (Ok root) = (root.0 ≡ trie.root (after state changes)) × AreApart (made_texts state changes)
 MeetsRoot state changes (Err (Clash named one other)) = IsLeastClash (made_texts state changes) named one other
 MeetsRoot state changes (Err error) = ⊤
 
 abbrev pub MeetsState : State → Changes → Result Replayed ProveError → Type 0
-MeetsState state changes (Ok replayed) = replayed.root.0 ≡ trie.root (after state changes)
+MeetsState state changes (Ok replayed) = (replayed.root.0 ≡ trie.root (after state changes)) × AreApart (made_texts state changes)
 MeetsState state changes (Err (Clash named one other)) = IsLeastClash (made_texts state changes) named one other
 MeetsState state changes (Err error) = ⊤
 
 abbrev pub ReplaysState : State → Changes → Result Replayed ReplayError → Type 0
-ReplaysState state changes (Ok replayed) = replayed.root.0 ≡ trie.root (after state changes)
+ReplaysState state changes (Ok replayed) = (replayed.root.0 ≡ trie.root (after state changes)) × AreApart (made_texts state changes)
 ReplaysState state changes (Err (replayed.Clash named one other)) = IsLeastClash (made_texts state changes) named one other
 ReplaysState state changes (Err error) = ⊤
+
+-- Carried out, where no two of these texts share a digest, and else the least such clash is told, but for want of memory.
+abbrev pub OkUnlessClash : List (List ℕ) → Result Replayed ReplayError → Type 0
+OkUnlessClash made (Ok replayed) = AreApart made
+OkUnlessClash made (Err (replayed.Missing named)) = ⊥
+OkUnlessClash made (Err (replayed.Bad named)) = ⊥
+OkUnlessClash made (Err (replayed.Usage named)) = ⊥
+OkUnlessClash made (Err (replayed.Clash named one other)) = IsLeastClash made named one other
+OkUnlessClash made (Err (replayed.Spare place)) = ⊥
+OkUnlessClash made (Err replayed.NoMemory) = ⊤
 
 -- What comes of a recording at the root of a state: the state's value of each read key, in order, and the root of the state with the changes laid over.
 pub record IsReplayOf (state : State) (reads : List (List ℕ)) (changes : Changes) (replayed : Replayed) : Type 0 where

@@ -1,6 +1,6 @@
 //! Reads and a batch, carried out over any store of texts.
 
-ghost use Rattle.std.specs.Prelude.{◌≡◌, ◌≤◌, [], length, IfOk, OnOk};
+ghost use Rattle.std.specs.Prelude.{◌≡◌, ◌≤◌, [], length, IfOk};
 ghost use Rattle.byte_model.specs.Nibbles.{longest_key};
 ghost use Rattle.trie_model.specs.State.{State, IsState};
 ghost use Rattle.trie_model.specs.Root as trie;
@@ -36,13 +36,13 @@ pub(crate) fn carry_all<T: Texts>(
     ensures left { Leaves T.store store.old store.new (replay_visits (T.store.texts store.old) root.now.0 ops.now.reads ops.now.batch.changes).digests (prove_ended result) }
     ensures state { (state : State) → IsState state → HoldsPlaces (T.store.texts store.old) state (touched_places state [] ops.now.batch.changes) → root.now.0 ≡ trie.root state → MeetsState state ops.now.batch.changes result }
     ensures sound { (state : State) → IsState state → NoClash (texts_of state) → Agrees (T.store.texts store.old) state → root.now.0 ≡ trie.root state → IfOk result (IsReplayOf state ops.now.reads ops.now.batch.changes) }
-    ensures within { OnOk result (AreWithin ops.now.reads ops.now.batch.changes) }
+    ensures within { AreWithin ops.now.reads ops.now.batch.changes }
 {
+    let _ = ops.changed();
     let answers = match read_all(alloc, store, root, ops.reads()) {
         Ok(answers) => answers,
         Err(error) => return Err(error),
     };
-    let _ = ops.changed();
     match carry_out(alloc, store, root, ops.changes()) {
         Ok(root) => Ok(Replayed {
             answers: Answers::new(answers),

@@ -3,11 +3,12 @@ ghost use Rattle.std.specs.FinSet.{empty};
 ghost use Rattle.trie_model.specs.State.{State, IsState};
 ghost use Rattle.trie_model.specs.Root as trie;
 ghost use Rattle.trie_model.specs.Root.{NoClash, texts_of};
+ghost use Rattle.change_model.specs.Ledger.{made_texts};
 ghost use Rattle.change_model.specs.Places.{touched_places};
 ghost use Rattle.change_model.specs.Tables.{HoldsPlaces};
 ghost use Rattle.recording_model.specs.Recorded.{recorded_texts};
 ghost use Rattle.text_store.specs.PartialStates.{table_of};
-ghost use Rattle.partial_state.specs.Replays.{AnswersReplay, StaysProof, ReplaysState, IsReplayOf};
+ghost use Rattle.partial_state.specs.Replays.{AnswersReplay, StaysProof, ReplaysState, OkUnlessClash, IsReplayOf};
 
 use crate::answers::Answers;
 use crate::carrying::carry_all;
@@ -62,6 +63,7 @@ pub fn replay(alloc: Global, proof: &mut Proof) -> Result<Replayed, ReplayError>
     ensures stays { StaysProof proof.old proof.new }
     ensures state { (state : State) → IsState state → HoldsPlaces (table_of proof.old.state.texts) state (touched_places state [] proof.old.ops.batch.changes) → proof.old.root.0 ≡ trie.root state → ReplaysState state proof.old.ops.batch.changes result }
     ensures sound { (state : State) → IsState state → NoClash (texts_of state ++ proof.old.state.texts) → proof.old.root.0 ≡ trie.root state → IfOk result (IsReplayOf state proof.old.ops.reads proof.old.ops.batch.changes) }
+    ensures complete { (state : State) → IsState state → NoClash (texts_of state) → proof.old.root.0 ≡ trie.root state → proof.old.state.texts ≡ recorded_texts state proof.old.ops.reads proof.old.ops.batch.changes → OkUnlessClash (made_texts state proof.old.ops.batch.changes) result }
     ensures exact { (state : State) → IsState state → NoClash (texts_of state ++ proof.old.state.texts) → proof.old.root.0 ≡ trie.root state → OnOk result (proof.old.state.texts ≡ recorded_texts state proof.old.ops.reads proof.old.ops.batch.changes) }
 {
     let _ = proof.state.len();

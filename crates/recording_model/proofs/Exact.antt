@@ -1,10 +1,8 @@
 -- A recording that is replayed without a refusal and without a spare text has exactly the touched texts of the state.
-use Rattle.std.proofs.Common.{◌≡◌, ℕ, ◌≤◌, ◌||◌, nat_eq, nat_cmp, Bool, true, false, cond, List, [], ◌∷◌, ◌++◌, map, Option, None, Some, ◌⊎◌, inl, inr, refl, sym, ap, ◌∙◌, subst}
-use Rattle.std.specs.List.{AllByRecursion, count_by, list_any, filter_map}
-use Rattle.std.specs.Ordering.{eq_by_cmp}
-use Rattle.std.specs.Cmp.Lexicographic.{slice_cmp, nat_list_cmp_total, pointwise, texts_ties, bytes_decides}
-use Rattle.std.specs.FinMap.{get, entries, get-insert, get-empty, same_map}
-use Rattle.std.proofs.lemmas.Map.Lookups.{exact_bytes}
+use Rattle.std.proofs.Common.{◌≡◌, ℕ, ◌≤◌, nat_eq, Bool, true, List, [], ◌++◌, map, None, Some, ◌⊎◌, inl, inr, refl, sym, ap, ◌∙◌, subst}
+use Rattle.std.specs.List.{AllByRecursion, count_by, filter_map}
+use Rattle.std.specs.Cmp.Lexicographic.{pointwise, bytes_decides}
+use Rattle.std.specs.FinMap.{get, entries}
 use Rattle.sha2.specs.Sha256.{sha256}
 use Rattle.byte_model.specs.Nibbles.{AreBytes, nibbles}
 use Rattle.trie_model.specs.State.{State, Row, IsState, rows_of}
@@ -19,61 +17,22 @@ use Rattle.change_model.specs.Places.{touched_places}
 use Rattle.change_model.proofs.Filtered.{in_filter_map_from}
 use Rattle.change_model.proofs.Touched.{in_of_any}
 use Rattle.change_model.proofs.Visited.{batch_passes}
-use Rattle.count_model.proofs.Clashing.{any_from, any_in}
 use Rattle.count_model.proofs.Live.{count-some, count-member}
 use Rattle.count_model.proofs.Loaded.{holds-touched}
-use Rattle.partial_model.specs.Texts.{Rise, set_of, texts_in}
+use Rattle.partial_model.specs.Texts.{Rise, texts_in}
 use Rattle.partial_model.proofs.Sets.{texts_in-set_of}
 use Rattle.recording_model.specs.Agreeing.{Agrees}
 use Rattle.recording_model.specs.Recorded.{touched_texts, recorded_texts}
-use Rattle.recording_model.specs.Replays.{Visits, Refusal, and_batch, reads_visits, replay_visits, is_used}
+use Rattle.recording_model.specs.Replays.{Visits, reads_visits, replay_visits, is_used}
 use Rattle.recording_model.proofs.StateReads.{looked, reads_visits-state}
+use Rattle.recording_model.proofs.Sets.{same-sets}
+use Rattle.recording_model.proofs.Behind.{behind-reads}
+use Rattle.recording_model.proofs.Filled.{full, full-has, full-holds}
 use Rattle.recording_model.proofs.MoreBatches.{batch-more, reads-more}
 use Rattle.recording_model.proofs.VisitedTexts.{Has}
 use Rattle.recording_model.proofs.ReadTexts.{held-reads}
-use Rattle.recording_model.proofs.Sound.{full, has, holds, both, touched-held, place_text}
-use Rattle.recording_model.proofs.TouchedTexts.{Touches, reads-touch, batch-touches, text-visited}
-
--- ---- sets with the same members
-
-abbrev is_same : List ℕ → List ℕ → Bool
-is_same = eq_by_cmp (slice_cmp nat_cmp)
-
-same_itself : (q : List ℕ) → is_same q q ≡ true
-same_itself q = sym (texts_ties q q) ∙ (bytes_decides q q).1 refl
-
-same_from : (q d : List ℕ) → is_same q d ≡ true → q ≡ d
-same_from q d e = (bytes_decides q d).0 (texts_ties q d ∙ e)
-
--- whether a text is among some
-abbrev among : List (List ℕ) → List ℕ → Bool
-among texts q = list_any (is_same q) texts
-
--- that it is there, or none
-abbrev there_if : Bool → Option (Unit {0})
-there_if b = cond b (Some tt) None
-
-either : (a b : Bool) → cond a (Some tt) (there_if b) ≡ there_if (a || b)
-either true b = refl
-either false b = refl
-
-get-set_of : (texts : List (List ℕ)) (q : List ℕ) → get (set_of texts) q ≡ there_if (among texts q)
-get-set_of [] q = get-empty (slice_cmp nat_cmp) q
-get-set_of (t ∷ texts) q = get-insert nat_list_cmp_total (set_of texts) t tt q ∙ ap (cond (is_same q t) (Some tt)) (get-set_of texts q) ∙ either (is_same q t) (among texts q)
-
-both_ways : (a b : Bool) → (a ≡ true → b ≡ true) → (b ≡ true → a ≡ true) → a ≡ b
-both_ways true b h k = sym (h refl)
-both_ways false true h k = k refl
-both_ways false false h k = refl
-
-among-more : (xs ys : List (List ℕ)) → ((t : List ℕ) → IsIn xs t → IsIn ys t) → (q : List ℕ) → among xs q ≡ true → among ys q ≡ true
-among-more xs ys all q e =
-    let one = any_from (is_same q) xs e in
-    any_in (is_same q) ys one.0 (all one.0 one.1) one.2
-
-same-sets : (xs ys : List (List ℕ)) → ((t : List ℕ) → IsIn xs t → IsIn ys t) → ((t : List ℕ) → IsIn ys t → IsIn xs t) → set_of xs ≡ set_of ys
-same-sets xs ys there back = same_map nat_list_cmp_total exact_bytes (set_of xs) (set_of ys) (λ q.
-    get-set_of xs q ∙ ap there_if (both_ways (among xs q) (among ys q) (among-more xs ys there q) (among-more ys xs back q)) ∙ sym (get-set_of ys q))
+use Rattle.recording_model.proofs.Sound.{both, touched-held, place_text}
+use Rattle.recording_model.proofs.TouchedTexts.{Touches, reads-touch, batch-text, text-visited}
 
 -- ---- touched texts are texts of the state
 
@@ -83,7 +42,7 @@ value_in state key value is =
     get_of_all (λ (pair : Pair). IsIn (map (λ row. row.1) (rows_of state)) pair.1) state
     (all_of (λ (pair : Pair). IsIn (map (λ row. row.1) (rows_of state)) pair.1) (entries state) (λ pair i. in-map (λ (row : Row). row.1) (rows_of_pairs (entries state)) (nibbles pair.0, pair.1) (in-map (λ (pair : Pair). (nibbles pair.0, pair.1)) (entries state) pair i))) key value is
 
-touched-in : (state : State) (reads : List (List ℕ)) (changes : Changes) (text : List ℕ) → IsIn (touched_texts state reads changes) text → IsIn (texts_of state) text
+pub touched-in : (state : State) (reads : List (List ℕ)) (changes : Changes) (text : List ℕ) → IsIn (touched_texts state reads changes) text → IsIn (texts_of state) text
 unfolding touched_texts texts_of
 touched-in state reads changes text h = go (in-append_cases (map (text_at state) (touched_places state reads changes)) (filter_map (get state) reads) text h)
   where
@@ -94,11 +53,6 @@ touched-in state reads changes text h = go (in-append_cases (map (text_at state)
     go (inr i) =
         let one = in_filter_map_from (get state) reads text i in
         in-append_right (map (text_at state) (places_of state)) (map (λ row. row.1) (rows_of state)) text (value_in state one.0 text one.2)
-
-digests-both : (o : Option Refusal) (reads : Visits) (batch : changing.Visits) → o ≡ None → (and_batch o reads batch).digests ≡ reads.digests ++ batch.digests
-unfolding and_batch
-digests-both None reads batch e = refl
-digests-both (Some why) reads batch e = cc
 
 -- ---- the texts
 
@@ -114,25 +68,25 @@ module _ (table : Table) (state : State) (reads : List (List ℕ)) (changes : Ch
 
   looked-is : reads_visits table (root state) reads ≡ looked state reads
   looked-is =
-      sym (reads-more table (full table state reads changes is bytes are apart agreeing passed) (has table state reads changes is bytes are apart agreeing passed) (root state) reads refused.0)
-      ∙ reads_visits-state (full table state reads changes is bytes are apart agreeing passed) state (holds table state reads changes is bytes are apart agreeing passed) is reads bytes
+      sym (reads-more table (full table state) (full-has table state agreeing) (root state) reads refused.0)
+      ∙ reads_visits-state (full table state) state (full-holds table state apart) is reads bytes
 
-  digests-are : digests ≡ (looked state reads).digests ++ batch.digests
+  pub digests-are : digests ≡ (looked state reads).digests ++ batch.digests
   digests-are =
-      digests-both (reads_visits table (root state) reads).refusal (reads_visits table (root state) reads) batch refused.0
+      ap (λ (v : Visits). v.digests) (behind-reads (reads_visits table (root state) reads) batch refused.0)
       ∙ ap (λ (v : Visits). v.digests ++ batch.digests) looked-is
 
   batch-visits-touched : (digest : List ℕ) → IsIn batch.digests digest → Touches state reads changes digest
   batch-visits-touched digest h =
-      let filled = full table state reads changes is bytes are apart agreeing passed in
+      let filled : Table = full table state in
       let test : List ℕ → Bool = λ q. pointwise nat_eq q digest in
       let named : List ℕ → List ℕ = λ place. sha256 (text_at state place) in
-      let counted = (batch_passes state changes is are filled (holds-touched filled state (holds table state reads changes is bytes are apart agreeing passed) [] changes) test).counted in
-      let there : IsIn (batch_visits filled (root state) changes).digests digest = subst (λ (v : changing.Visits). IsIn v.digests digest) (sym (batch-more table filled (has table state reads changes is bytes are apart agreeing passed) (root state) changes refused.1)) h in
+      let counted = (batch_passes state changes is are filled (holds-touched filled state (full-holds table state apart) [] changes) test).counted in
+      let there : IsIn (batch_visits filled (root state) changes).digests digest = subst (λ (v : changing.Visits). IsIn v.digests digest) (sym (batch-more table filled (full-has table state agreeing) (root state) changes refused.1)) h in
       let some : 1 ≤ count_by test (batch_visits filled (root state) changes).digests = count-member test (batch_visits filled (root state) changes).digests digest there ((bytes_decides digest digest).1 refl) in
       let one = count-some test (map named (touched_places state [] changes)) (subst (λ (n : ℕ). 1 ≤ n) counted some) in
       let place = in_map_from named (touched_places state [] changes) one.0 one.1 in
-      subst (Touches state reads changes) (place.2 ∙ (bytes_decides one.0 digest).0 one.2) (batch-touches state reads changes place.0 place.1)
+      subst (Touches state reads changes) (place.2 ∙ (bytes_decides one.0 digest).0 one.2) (text_at state place.0, batch-text state reads changes place.0 place.1, refl)
 
   -- what is visited is touched
   pub visits-touched : (digest : List ℕ) → IsIn digests digest → Touches state reads changes digest

@@ -7,27 +7,28 @@ use Rattle.sha2.specs.Sha256.{sha256}
 use Rattle.trie_model.specs.State.{State}
 use Rattle.trie_model.specs.Root.{Table, Holds, NoClash, texts_of}
 use Rattle.trie_model.proofs.Members.{IsIn, all_of, contains_of_in}
+use Rattle.recording_model.specs.Agreeing.{Agrees}
 use Rattle.recording_model.proofs.More.{HasMore}
 
-abbrev is_same : List ℕ → List ℕ → Bool
+abbrev pub is_same : List ℕ → List ℕ → Bool
 is_same = eq_by_cmp (slice_cmp nat_cmp)
 
 pub filled : Table → List (List ℕ) → Table
 filled table [] = table
 filled table (t ∷ ts) = insert (filled table ts) (sha256 t) t
 
-same_itself : (q : List ℕ) → is_same q q ≡ true
+pub same_itself : (q : List ℕ) → is_same q q ≡ true
 same_itself q = sym (texts_ties q q) ∙ (bytes_decides q q).1 refl
 
-same_from : (q d : List ℕ) → is_same q d ≡ true → q ≡ d
+pub same_from : (q d : List ℕ) → is_same q d ≡ true → q ≡ d
 same_from q d e = (bytes_decides q d).0 (texts_ties q d ∙ e)
 
 -- under the digest of each of some texts there is that text, or none
-abbrev pub AgreesAt : Table → List (List ℕ) → Type 0
+abbrev AgreesAt : Table → List (List ℕ) → Type 0
 AgreesAt table ts = (t text : List ℕ) → IsIn ts t → get table (sha256 t) ≡ Some text → t ≡ text
 
 -- what stood in the table stands there still
-pub filled-has : (table : Table) (ts : List (List ℕ)) → AgreesAt table ts → HasMore table (filled table ts)
+filled-has : (table : Table) (ts : List (List ℕ)) → AgreesAt table ts → HasMore table (filled table ts)
 unfolding filled
 filled-has table [] agrees digest text e = e
 filled-has table (t ∷ ts) agrees digest text e =
@@ -52,8 +53,16 @@ filled-at table (u ∷ ts) apart t h =
     go false s (inl is) further = absurd (differ (sym s ∙ ap (λ (v : List ℕ). is_same (sha256 t) (sha256 v)) is ∙ same_itself (sha256 t)))
     go false s (inr k) further = further k
 
-pub filled-holds : (table : Table) (state : State) → NoClash (texts_of state) → Holds (filled table (texts_of state)) state
-filled-holds table state apart = record {
+-- ---- with the texts of a state
+
+abbrev pub full : Table → State → Table
+full table state = filled table (texts_of state)
+
+pub full-has : (table : Table) (state : State) → Agrees table state → HasMore table (full table state)
+full-has table state agrees = filled-has table (texts_of state) (λ t text i e. agrees t text (contains_of_in (texts_of state) t i) e)
+
+pub full-holds : (table : Table) (state : State) → NoClash (texts_of state) → Holds (full table state) state
+full-holds table state apart = record {
   found = all_of _ (texts_of state) (filled-at table (texts_of state) (λ a b i j. apart.apart a b (contains_of_in (texts_of state) a i) (contains_of_in (texts_of state) b j)));
   nonzero = all_of _ (texts_of state) (λ t h. apart.nonzero t (contains_of_in (texts_of state) t h));
 }

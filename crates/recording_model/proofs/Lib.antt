@@ -1,4 +1,5 @@
 pub mod StateReads
+pub mod Behind
 pub mod More
 pub mod MoreBatches
 pub mod Filled
@@ -6,5 +7,8 @@ pub mod VisitedTexts
 pub mod Sound
 pub mod TouchedTexts
 pub mod ReadTexts
+pub mod Sets
 pub mod Exact
 pub mod Used
+pub mod Back
+pub mod Complete

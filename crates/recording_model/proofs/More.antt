@@ -1,5 +1,5 @@
 -- What is seen of a table that has more texts, and which visits stay the same: those that passed every test.
-use Rattle.std.proofs.Common.{◌≡◌, ℕ, zero, suc, ◌+◌, ◌-◌, Bool, true, false, if◌then◌else◌, nat_eq, List, [], ◌∷◌, ◌++◌, length, Option, None, Some, Result, Ok, Err, refl, sym, ap, ◌∙◌, subst}
+use Rattle.std.proofs.Common.{◌≡◌, ℕ, zero, suc, ◌+◌, ◌-◌, Bool, true, false, if◌then◌else◌, nat_eq, List, [], ◌∷◌, ◌++◌, length, Option, None, Some, Result, Ok, Err, ◌⊎◌, inl, inr, refl, sym, ap, ◌∙◌, subst}
 use Rattle.std.specs.Cmp.Lexicographic.{pointwise}
 use Rattle.std.specs.FinMap.{get}
 use Rattle.byte_model.specs.PackedPath.{longest_path}
@@ -20,14 +20,14 @@ use Rattle.change_model.specs.Along.{digest_of}
 abbrev pub HasMore : Table → Table → Type 0
 HasMore table full = (digest text : List ℕ) → get table digest ≡ Some text → get full digest ≡ Some text
 
--- the same, but that something may be seen where a text was missing
-unfoldable pub LessSeen : Seen → Seen → Type 0
-LessSeen nothing other = other ≡ nothing
-LessSeen (missing digest) other = digest_of other ≡ Some digest
-LessSeen (bad digest) other = other ≡ bad digest
-LessSeen (leaf digest usage path ref) other = other ≡ leaf digest usage path ref
-LessSeen (branch digest usage ref kids) other = (others : ℕ → Seen) × (other ≡ branch digest usage ref others) × ((x : ℕ) → LessSeen (kids x) (others x))
-LessSeen (extension digest usage path child) other = (below : Seen) × (other ≡ extension digest usage path below) × LessSeen child below
+-- the same, but that something may be seen where the table has no text
+unfoldable pub LessSeen : Table → Seen → Seen → Type 0
+LessSeen table nothing other = other ≡ nothing
+LessSeen table (missing digest) other = (digest_of other ≡ Some digest) × ((other ≡ missing digest) ⊎ (get table digest ≡ None))
+LessSeen table (bad digest) other = other ≡ bad digest
+LessSeen table (leaf digest usage path ref) other = other ≡ leaf digest usage path ref
+LessSeen table (branch digest usage ref kids) other = (others : ℕ → Seen) × (other ≡ branch digest usage ref others) × ((x : ℕ) → LessSeen table (kids x) (others x))
+LessSeen table (extension digest usage path child) other = (below : Seen) × (other ≡ extension digest usage path below) × LessSeen table child below
 
 -- ---- of a digest
 
@@ -51,30 +51,25 @@ unfolding digest_of seen_text
 named-text look depth after_extension digest None = refl
 named-text look depth after_extension digest (Some text) = named-record look depth after_extension digest (record_in text)
 
-named-within : (n : ℕ) (table : Table) (depth : ℕ) (after_extension : Bool) (digest : List ℕ) → digest_of (seen_within n table depth after_extension digest) ≡ Some digest
-unfolding digest_of seen_within
-named-within zero table depth after_extension digest = refl
-named-within (suc n) table depth after_extension digest = named-text (seen_within n table) depth after_extension digest (get table digest)
-
 -- ---- of a text, by what is seen further down
 
-module _ (look more : Looks) (further : (depth : ℕ) (after_extension : Bool) (digest : List ℕ) → LessSeen (look depth after_extension digest) (more depth after_extension digest)) where
-  less-child : (depth : ℕ) (name : Option (List ℕ)) → LessSeen (seen_child (look depth false) name) (seen_child (more depth false) name)
+module _ (table : Table) (look more : Looks) (further : (depth : ℕ) (after_extension : Bool) (digest : List ℕ) → LessSeen table (look depth after_extension digest) (more depth after_extension digest)) where
+  less-child : (depth : ℕ) (name : Option (List ℕ)) → LessSeen table (seen_child (look depth false) name) (seen_child (more depth false) name)
   unfolding LessSeen seen_child
   less-child depth None = refl
   less-child depth (Some digest) = further depth false digest
 
-  less-node : (depth : ℕ) (digest : List ℕ) (n : Node) (used : ℕ) → LessSeen (seen_node look depth digest n used) (seen_node more depth digest n used)
+  less-node : (depth : ℕ) (digest : List ℕ) (n : Node) (used : ℕ) → LessSeen table (seen_node look depth digest n used) (seen_node more depth digest n used)
   unfolding LessSeen seen_node
   less-node depth digest (node.leaf path ref) used = refl
   less-node depth digest (node.branch ref kids) used = ((λ x. seen_child (more (depth + 1) false) (kids x)), refl, (λ x. less-child (depth + 1) (kids x)))
   less-node depth digest (node.extension path child) used = (more (depth + length path) true child, refl, further (depth + length path) true child)
 
-  less-record : (depth : ℕ) (after_extension : Bool) (digest : List ℕ) (read : Result (Node × ℕ) RecordFault) → LessSeen (seen_record look depth after_extension digest read) (seen_record more depth after_extension digest read)
+  less-record : (depth : ℕ) (after_extension : Bool) (digest : List ℕ) (read : Result (Node × ℕ) RecordFault) → LessSeen table (seen_record look depth after_extension digest read) (seen_record more depth after_extension digest read)
   unfolding LessSeen seen_record
   less-record depth after_extension digest (Err fault) = refl
   less-record depth after_extension digest (Ok found) =
-      elim (fits_at depth after_extension found.0) as (λ b. LessSeen (if b then seen_node look depth digest found.0 found.1 else bad digest) (if b then seen_node more depth digest found.0 found.1 else bad digest)) [
+      elim (fits_at depth after_extension found.0) as (λ b. LessSeen table (if b then seen_node look depth digest found.0 found.1 else bad digest) (if b then seen_node more depth digest found.0 found.1 else bad digest)) [
         | true ↦ less-node depth digest found.0 found.1
         | false ↦ refl
       ]
@@ -82,21 +77,21 @@ module _ (look more : Looks) (further : (depth : ℕ) (after_extension : Bool) (
 -- ---- of a table
 
 module _ (table full : Table) (has : HasMore table full) where
-  less-within : (n depth : ℕ) (after_extension : Bool) (digest : List ℕ) → LessSeen (seen_within n table depth after_extension digest) (seen_within n full depth after_extension digest)
-  unfolding LessSeen seen_within seen_text
-  less-within zero depth after_extension digest = named-within zero full depth after_extension digest
+  less-within : (n depth : ℕ) (after_extension : Bool) (digest : List ℕ) → LessSeen table (seen_within n table depth after_extension digest) (seen_within n full depth after_extension digest)
+  unfolding LessSeen digest_of seen_within seen_text
+  less-within zero depth after_extension digest = (refl, inl refl)
   less-within (suc n) depth after_extension digest = go (less-within n) (get table digest) refl
     where
-      go : ((deeper : ℕ) (below : Bool) (d : List ℕ) → LessSeen (seen_within n table deeper below d) (seen_within n full deeper below d)) → (held : Option (List ℕ)) → get table digest ≡ held → LessSeen (seen_text (seen_within n table) depth after_extension digest held) (seen_text (seen_within n full) depth after_extension digest (get full digest))
-      go further None e = named-text (seen_within n full) depth after_extension digest (get full digest)
+      go : ((deeper : ℕ) (below : Bool) (d : List ℕ) → LessSeen table (seen_within n table deeper below d) (seen_within n full deeper below d)) → (held : Option (List ℕ)) → get table digest ≡ held → LessSeen table (seen_text (seen_within n table) depth after_extension digest held) (seen_text (seen_within n full) depth after_extension digest (get full digest))
+      go further None e = (named-text (seen_within n full) depth after_extension digest (get full digest), inr e)
       go further (Some text) e =
-          subst (λ (held : Option (List ℕ)). LessSeen (seen_record (seen_within n table) depth after_extension digest (record_in text)) (seen_text (seen_within n full) depth after_extension digest held)) (sym (has digest text e))
-          (less-record (seen_within n table) (seen_within n full) further depth after_extension digest (record_in text))
+          subst (λ (held : Option (List ℕ)). LessSeen table (seen_record (seen_within n table) depth after_extension digest (record_in text)) (seen_text (seen_within n full) depth after_extension digest held)) (sym (has digest text e))
+          (less-record table (seen_within n table) (seen_within n full) further depth after_extension digest (record_in text))
 
-  pub less-seen : (root : List ℕ) → LessSeen (seen table root) (seen full root)
+  pub less-seen : (root : List ℕ) → LessSeen table (seen table root) (seen full root)
   unfolding LessSeen seen seen_at
   less-seen root =
-      elim (pointwise nat_eq root zero_digest) as (λ b. LessSeen (if b then nothing else seen_at table 0 false root) (if b then nothing else seen_at full 0 false root)) [
+      elim (pointwise nat_eq root zero_digest) as (λ b. LessSeen table (if b then nothing else seen_at table 0 false root) (if b then nothing else seen_at full 0 false root)) [
         | true ↦ refl
         | false ↦ less-within (suc longest_path - 0) 0 false root
       ]
@@ -116,7 +111,7 @@ module _ (table full : Table) (has : HasMore table full) where
   values-more path None passed = refl
   values-more path (Some ref) passed = value-more path ref passed
 
-  steps-more : (s other : Seen) → LessSeen s other → (before rest : List ℕ) → (visits_of table 1 (lookup_steps s before rest)).refusal ≡ None → visits_of full 1 (lookup_steps other before rest) ≡ visits_of table 1 (lookup_steps s before rest)
+  steps-more : (s other : Seen) → LessSeen table s other → (before rest : List ℕ) → (visits_of table 1 (lookup_steps s before rest)).refusal ≡ None → visits_of full 1 (lookup_steps other before rest) ≡ visits_of table 1 (lookup_steps s before rest)
   unfolding LessSeen lookup_steps visits_of behind
   steps-more nothing other less before rest passed = ap (λ (o : Seen). visits_of full 1 (lookup_steps o before rest)) less
   steps-more (missing digest) other less before rest passed = cc

@@ -13,7 +13,7 @@ use Rattle.visit_model.specs.Steps.{value, value_steps, behind, lookup_steps}
 use Rattle.visit_model.specs.Visits as looking
 use Rattle.visit_model.specs.Visits.{value_visit, value_first, visits_of, lookup_visits}
 use Rattle.recording_model.specs.Replays.{Visits, value_among, and_reads, reads_visits}
-use Rattle.recording_model.proofs.MoreBatches.{both-passed}
+use Rattle.recording_model.proofs.Behind.{reads-passed}
 use Rattle.recording_model.proofs.VisitedTexts.{Has, Stored, stored-seen}
 
 module _ (table : Table) where
@@ -62,5 +62,5 @@ module _ (table : Table) where
   held-reads root [] passed = tt
   held-reads root (key ∷ reads) passed =
       let v = lookup_visits table root key in
-      let both = both-passed table table (λ digest text e. e) root v.refusal v.digests (value_among v.values) (reads_visits table root reads) passed in
+      let both = reads-passed v.refusal v.digests (value_among v.values) (reads_visits table root reads) passed in
       held-and v.refusal v.digests (value_among v.values) (reads_visits table root reads) (steps-held (seen table root) (stored-seen table root) [] (nibbles key) both.0) (held-reads root reads both.1)

@@ -80,9 +80,12 @@ module _ (state : State) (reads : List (List ℕ)) (changes : Changes) where
   abbrev pub Touches : List ℕ → Type 0
   Touches digest = (text : List ℕ) × IsIn (touched_texts state reads changes) text × (sha256 text ≡ digest)
 
-  place-touches : (place : List ℕ) → IsIn (touched_places state reads changes) place → Touches (sha256 (text_at state place))
+  place-text : (place : List ℕ) → IsIn (touched_places state reads changes) place → IsIn (touched_texts state reads changes) (text_at state place)
   unfolding touched_texts
-  place-touches place i = (text_at state place, in-append_left (map (text_at state) (touched_places state reads changes)) (filter_map (get state) reads) (text_at state place) (in-map (text_at state) (touched_places state reads changes) place i), refl)
+  place-text place i = in-append_left (map (text_at state) (touched_places state reads changes)) (filter_map (get state) reads) (text_at state place) (in-map (text_at state) (touched_places state reads changes) place i)
+
+  place-touches : (place : List ℕ) → IsIn (touched_places state reads changes) place → Touches (sha256 (text_at state place))
+  place-touches place i = (text_at state place, place-text place i, refl)
 
   value-touches : (key value : List ℕ) → IsIn reads key → get state key ≡ Some value → Touches (sha256 value)
   unfolding touched_texts
@@ -92,7 +95,7 @@ module _ (state : State) (reads : List (List ℕ)) (changes : Changes) where
   abbrev on_path : List ℕ → List (List ℕ)
   on_path key = filter (has_prefix (nibbles key)) (places_of state)
 
-  lookup-touches : (key digest : List ℕ) → IsIn reads key → IsIn (lookup_of state key).digests digest → Touches digest
+  pub lookup-touches : (key digest : List ℕ) → IsIn reads key → IsIn (lookup_of state key).digests digest → Touches digest
   lookup-touches key digest k h = by_part (in-append_cases (map (λ place. sha256 (text_at state place)) (on_path key)) (at_most_one (option_map sha256 (get state key))) digest h)
     where
       by_value : (o : Option (List ℕ)) → get state key ≡ o → IsIn (at_most_one (option_map sha256 o)) digest → Touches digest
@@ -119,8 +122,8 @@ module _ (state : State) (reads : List (List ℕ)) (changes : Changes) where
   pub reads-touch : (digest : List ℕ) → IsIn (looked state reads).digests digest → Touches digest
   reads-touch digest h = looked-touches reads (λ key i. i) digest h
 
-  pub batch-touches : (place : List ℕ) → IsIn (touched_places state [] changes) place → Touches (sha256 (text_at state place))
-  batch-touches place i = place-touches place (batch-touched place i)
+  pub batch-text : (place : List ℕ) → IsIn (touched_places state [] changes) place → IsIn (touched_texts state reads changes) (text_at state place)
+  batch-text place i = place-text place (batch-touched place i)
 
   -- and the other way round
   looked-has : (rest : List (List ℕ)) (key digest : List ℕ) → IsIn rest key → IsIn (lookup_of state key).digests digest → IsIn (looked state rest).digests digest

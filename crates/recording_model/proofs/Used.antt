@@ -1,4 +1,4 @@
--- Where no text is spare, each is used.
+-- No text is spare exactly where each is used.
 use Rattle.std.proofs.Common.{◌≡◌, ℕ, ◌+◌, Bool, true, false, cond, not, List, [], ◌∷◌, None, Some, ◌⊎◌, inl, inr, position, refl, sym, ap, ◌∙◌}
 use Rattle.std.specs.List.{position_from}
 use Rattle.std.proofs.lemmas.Iterator.Adapters.{position_from-zero}
@@ -28,3 +28,14 @@ all-used digests texts e text h = turned_round (is_used digests text) (none_pass
     turned_round : (b : Bool) → not b ≡ false → b ≡ true
     turned_round true k = refl
     turned_round false k = cc
+
+-- ---- and the other way round
+
+none_passes_from : {X : Type 0} (test : X → Bool) (i : ℕ) (xs : List X) → ((x : X) → IsIn xs x → test x ≡ false) → position_from test i xs ≡ None
+none_passes_from test i [] fails = refl
+none_passes_from test i (y ∷ ys) fails = ap (λ (b : Bool). cond b (Some i) (position_from test (i + 1) ys)) (fails y (inl refl)) ∙ none_passes_from test (i + 1) ys (λ x h. fails x (inr h))
+
+pub none-spare : (digests texts : List (List ℕ)) → ((text : List ℕ) → IsIn texts text → is_used digests text ≡ true) → first_spare digests texts ≡ None
+unfolding first_spare
+none-spare digests texts used =
+    position_from-zero (λ (t : List ℕ). not (is_used digests t)) texts ∙ none_passes_from (λ (t : List ℕ). not (is_used digests t)) 0 texts (λ t h. ap not (used t h))

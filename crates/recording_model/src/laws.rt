@@ -30,6 +30,12 @@ pub fn replays_are_exact()
     ensures { (table : Table) (state : State) (reads : List (List ℕ)) (changes : Changes) (texts : List (List ℕ)) → IsState state → AllByRecursion AreBytes reads → AreChanges changes → NoClash (texts_of state) → Agrees table state → (replay_visits table (root state) reads changes).refusal ≡ None → IsTableOf table texts → first_spare (replay_visits table (root state) reads changes).digests texts ≡ None → texts ≡ recorded_texts state reads changes }
 {}
 
+/// And the other way round: over a table of exactly the recording of a state no test fails, and none of the texts is spare.
+pub fn recordings_are_replayed()
+    ensures refusal { (table : Table) (state : State) (reads : List (List ℕ)) (changes : Changes) → IsState state → AllByRecursion AreBytes reads → AreChanges changes → NoClash (texts_of state) → Agrees table state → IsTableOf table (recorded_texts state reads changes) → (replay_visits table (root state) reads changes).refusal ≡ None }
+    ensures spare { (table : Table) (state : State) (reads : List (List ℕ)) (changes : Changes) → IsState state → AllByRecursion AreBytes reads → AreChanges changes → NoClash (texts_of state) → Agrees table state → IsTableOf table (recorded_texts state reads changes) → first_spare (replay_visits table (root state) reads changes).digests (recorded_texts state reads changes) ≡ None }
+{}
+
 /// Over more texts, reads and a batch that passed every test visit the same, and are answered alike.
 pub fn more_texts_change_nothing()
     ensures { (table full : Table) (root : List ℕ) (reads : List (List ℕ)) (changes : Changes) → ((digest text : List ℕ) → get table digest ≡ Some text → get full digest ≡ Some text) → (replay_visits table root reads changes).refusal ≡ None → replay_visits full root reads changes ≡ replay_visits table root reads changes }

@@ -16,6 +16,7 @@ use Rattle.base_core.specs.ChangeMaps.{ChangeMap}
 use Rattle.base_core.specs.Faults.{done}
 use Rattle.text_store.specs.Leaves.{Leaves}
 use Rattle.partial_state.specs.Replays.{by_prove_error, AnswersCarried, IsStopped, MeetsRoot}
+use Rattle.partial_state.proofs.Limits.{are_within}
 use Rattle.partial_state.proofs.Carried.{reads-refused, left-both, both-done, batch-refused}
 use Rattle.partial_state.proofs.carrying.carry_all.Goals as goal
 
@@ -97,14 +98,14 @@ returns-in-Err-carry_out-clause-state g c state is holds root =
     subst (λ (map : ChangeMap). HoldsPlaces (store.texts old) state (touched_places state [] map.changes) → MeetsRoot state map.changes (Err c.in-Err-carry_out.error)) c.changes.ensures
     (λ held. c.in-Err-carry_out.ensures.state state is (subst (λ (t : Table). HoldsPlaces t state (touched_places state [] c.changes.result.now.changes)) same held) root) holds
 
+pub returns-in-Err-clause-within : goal.returns-in-Err-clause-within
+returns-in-Err-clause-within g c = are_within c.args.ops.now c.reads.ensures.held c.changed.ensures.held
+
 pub returns-in-Ok-carry_out-clause-within : goal.returns-in-Ok-carry_out-clause-within
-returns-in-Ok-carry_out-clause-within g c = record {
-  reads_are = AllByRecursion-weaker IsKey AreBytes (λ key h. h.0) c.args.ops.now.reads c.reads.ensures.held.each;
-  changes_are = record { each = c.changed.ensures.held.each; few = at_most c.changed.ensures.held.few c.changed.ensures.held.bounded };
-}
-  where
-    at_most : {a b c : ℕ} → a ≤ b → b ≤ c → a ≤ c
-    at_most h k = omega (arith, h, k)
+returns-in-Ok-carry_out-clause-within g c = are_within c.args.ops.now c.reads.ensures.held c.changed.ensures.held
+
+pub returns-in-Err-carry_out-clause-within : goal.returns-in-Err-carry_out-clause-within
+returns-in-Err-carry_out-clause-within g c = are_within c.args.ops.now c.reads.ensures.held c.changed.ensures.held
 
 pub returns-in-Ok-carry_out-clause-sound : goal.returns-in-Ok-carry_out-clause-sound
 returns-in-Ok-carry_out-clause-sound g c state is apart agrees root =
@@ -117,5 +118,5 @@ returns-in-Ok-carry_out-clause-sound g c state is apart agrees root =
     let passed : (replay_visits table (trie.root state) reads changes).refusal ≡ None = subst (λ (r : List ℕ). (replay_visits table r reads changes).refusal ≡ None) root answer.0 in
     record {
       answers = answer.1 ∙ ap (λ (r : List ℕ). (replay_visits table r reads changes).answers) root ∙ sound-answers table state reads changes is within.reads_are within.changes_are apart agrees passed;
-      root = returns-in-Ok-carry_out-clause-state g c state is (sound-places table state reads changes is within.reads_are within.changes_are apart agrees passed) root;
+      root = (returns-in-Ok-carry_out-clause-state g c state is (sound-places table state reads changes is within.reads_are within.changes_are apart agrees passed) root).0;
     }
