@@ -1,5 +1,5 @@
 -- The index: of each key the blocks that change it.
-use Rattle.std.proofs.Common.{◌≡◌, ℕ, ◌+◌, ◌<◌, ◌≤◌, Bool, true, false, cond, ◌||◌, List, [], ◌∷◌, ◌++◌, length, drop, get_or, Option, None, Some, is_some, Vec, refl, sym, ap, subst, ◌∙◌}
+use Rattle.std.proofs.Common.{◌≡◌, ℕ, ◌+◌, ◌<◌, ◌≤◌, Bool, true, false, cond, ◌||◌, List, [], ◌∷◌, ◌++◌, length, drop, get_or, Option, None, Some, is_some, Vec, ◌⊎◌, inl, inr, refl, sym, ap, subst, ◌∙◌}
 use Rattle.std.specs.Prelude.{nat_eq}
 use Rattle.std.specs.Option.{option_and_then, option_copied, option_map, unwrap_or}
 use Rattle.std.specs.List.{AllByRecursion, filter, list_any}
@@ -20,11 +20,11 @@ use Rattle.base_core.proofs.ByteMaps.{order}
 use Rattle.base_core.proofs.HashTables.{updated}
 use Rattle.fork_model.specs.Trees.{BlockTree, IsTree, is_among, is_live, passed}
 use Rattle.fork_model.proofs.Ids.{same_from, same-itself}
-use Rattle.fork_model.proofs.Passed.{line-passed}
+use Rattle.fork_model.proofs.Passed.{line-passed, passed-head}
 use Rattle.fork_model.proofs.Told.{found_live}
 use Rattle.fork_tree.specs.Nearest.{IsNearest}
 use Rattle.flat_store.specs.Flats.{Deltas, FlatState, IsOnWay, delta_of, laid_over}
-use Rattle.flat_store.specs.Kept.{AreListed, Batches, Lists, StayListed, change_at, deltas_of, held, ids_in, is_newest, listed_at}
+use Rattle.flat_store.specs.Kept.{AreListed, Batches, IsClear, Lists, StayListed, change_at, deltas_of, held, ids_in, is_newest, listed_at}
 use Rattle.flat_store.proofs.Lookups.{change-delta, change-found, change-missing}
 use Rattle.flat_store.proofs.Noting.{Row, shown}
 use Rattle.flat_store.proofs.Tables.{batch_at, get-deltas, items_of, same_items}
@@ -276,31 +276,68 @@ unfolding laid_over
 laid-append deltas [] ys state = refl
 laid-append deltas (x ∷ xs) ys state = laid-append deltas xs ys (after state (delta_of deltas x))
 
-module _ (deltas : Deltas) (key : List ℕ) (ids : List (List ℕ)) (all : (q : List ℕ) → is_some (change_at deltas q key) ≡ true → is_among q ids ≡ true) where
-  unchanged-by : (q : List ℕ) → is_among q ids ≡ false → change_at deltas q key ≡ None
-  unchanged-by q other = by_case (change_at deltas q key) refl
+all-behind : {X : Type 0} (P : X → Type 0) (xs ys : List X) → AllByRecursion P (xs ++ ys) → AllByRecursion P ys
+all-behind P [] ys all = all
+all-behind P (x ∷ xs) ys all = all-behind P xs ys all.1
+
+-- the blocks that the way to the nearest passes, and then the others
+passed-nearest : (tree : BlockTree) (ids : List (List ℕ)) (id near : List ℕ) → IsTree tree → is_live tree id ≡ true → (nearest : IsNearest tree ids id near) → passed tree id ≡ passed tree near ++ nearest.beyond
+passed-nearest tree ids id near is live nearest =
+    let here = found_live _ live in
+    let there = found_live _ nearest.live in
+    let way : tree.head ∷ passed tree id ≡ tree.head ∷ (passed tree near ++ nearest.beyond) = sym (line-passed tree is id here.0 here.1) ∙ nearest.way ∙ ap (λ xs. xs ++ nearest.beyond) (line-passed tree is near there.0 there.1) in
+    ap (drop 1) way
+
+module _ (newest : Option Digest) (deltas : Deltas) (lists : Lists) (key : List ℕ) (listed : AreListed newest deltas lists) where
+  unchanged-by : (q : List ℕ) → IsClear newest deltas key q → is_among q (listed_at lists key) ≡ false → change_at deltas q key ≡ None
+  unchanged-by q clear other = by_case (change_at deltas q key) refl
     where
       by_case : (o : Option (Option (List ℕ))) → change_at deltas q key ≡ o → o ≡ None
       by_case None e = refl
-      by_case (Some v) e = absurd (false≢true (sym other ∙ all q (ap is_some e)))
+      by_case (Some v) e = absurd (false≢true (sym other ∙ unless-newest newest deltas lists q key listed clear (ap is_some e)))
 
-  laid-others : (xs : List (List ℕ)) (state : State) → AllByRecursion (λ q. is_among q ids ≡ false) xs → get (laid_over deltas xs state) key ≡ get state key
+  laid-others : (xs : List (List ℕ)) (state : State) → AllByRecursion (IsClear newest deltas key) xs → AllByRecursion (λ q. is_among q (listed_at lists key) ≡ false) xs → get (laid_over deltas xs state) key ≡ get state key
   unfolding laid_over
-  laid-others [] state none = refl
-  laid-others (x ∷ xs) state none =
-      laid-others xs (after state (delta_of deltas x)) none.1 ∙ get-after state (delta_of deltas x) key
-      ∙ ap (λ (o : Option (Option (List ℕ))). decided o (get state key)) (change-delta deltas x key ∙ unchanged-by x none.0)
+  laid-others [] state clear none = refl
+  laid-others (x ∷ xs) state clear none =
+      laid-others xs (after state (delta_of deltas x)) clear.1 none.1 ∙ get-after state (delta_of deltas x) key
+      ∙ ap (λ (o : Option (Option (List ℕ))). decided o (get state key)) (change-delta deltas x key ∙ unchanged-by x clear.0 none.0)
 
-  pub nearest-on_way : (tree : BlockTree) (flat : FlatState) (id near : List ℕ) → flat.deltas ≡ deltas → IsTree tree → is_live tree id ≡ true → IsNearest tree ids id near → IsOnWay tree flat key id near
-  nearest-on_way tree flat id near of is live nearest =
-      let here = found_live _ live in
-      let there = found_live _ nearest.live in
-      let way : tree.head ∷ passed tree id ≡ tree.head ∷ (passed tree near ++ nearest.beyond) = sym (line-passed tree is id here.0 here.1) ∙ nearest.way ∙ ap (λ xs. xs ++ nearest.beyond) (line-passed tree is near there.0 there.1) in
-      let rest : passed tree id ≡ passed tree near ++ nearest.beyond = ap (drop 1) way in
+  pub nearest-on_way : (tree : BlockTree) (flat : FlatState) (id near : List ℕ) → flat.deltas ≡ deltas → IsTree tree → is_live tree id ≡ true → AllByRecursion (IsClear newest deltas key) (passed tree id) → IsNearest tree (listed_at lists key) id near → IsOnWay tree flat key id near
+  nearest-on_way tree flat id near of is live clear nearest =
+      let rest = passed-nearest tree (listed_at lists key) id near is live nearest in
       record {
         told = sym (ap (λ xs. get (laid_over flat.deltas xs flat.head) key) rest ∙ ap (λ (s : State). get s key) (laid-append flat.deltas (passed tree near) nearest.beyond flat.head)
             ∙ ap (λ (ds : Deltas). get (laid_over ds nearest.beyond (laid_over flat.deltas (passed tree near) flat.head)) key) of
-            ∙ laid-others nearest.beyond (laid_over flat.deltas (passed tree near) flat.head) nearest.others);
+            ∙ laid-others nearest.beyond (laid_over flat.deltas (passed tree near) flat.head) (all-behind (IsClear newest deltas key) (passed tree near) nearest.beyond (subst (AllByRecursion (IsClear newest deltas key)) rest clear)) nearest.others);
         first = live;
         live = nearest.live;
       }
+
+-- ---- whether the newest block is on the way
+
+pub clear-everywhere : (newest : Option Digest) (deltas : Deltas) (key : List ℕ) → ((q : List ℕ) → is_newest newest q ≡ true → is_some (change_at deltas q key) ≡ false) → (xs : List (List ℕ)) → AllByRecursion (IsClear newest deltas key) xs
+clear-everywhere newest deltas key clear [] = tt
+clear-everywhere newest deltas key clear (x ∷ xs) = (clear x, clear-everywhere newest deltas key clear xs)
+
+pub clear-without : (deltas : Deltas) (key : List ℕ) (xs : List (List ℕ)) → AllByRecursion (IsClear None deltas key) xs
+clear-without deltas key [] = tt
+clear-without deltas key (x ∷ xs) = ((λ yes. absurd (false≢true yes)), clear-without deltas key xs)
+
+-- The newest block is not on a way whose nearest block among it alone is another one.
+pub clear-beside : (tree : BlockTree) (deltas : Deltas) (key id : List ℕ) (newest near : Digest) → IsTree tree → is_live tree id ≡ true → bytes_eq near.0 newest.0 ≡ false → IsNearest tree (newest.0 ∷ []) id near.0 → AllByRecursion (IsClear (Some newest) deltas key) (passed tree id)
+clear-beside tree deltas key id newest near is live other nearest = subst (AllByRecursion (IsClear (Some newest) deltas key)) (sym way) (apart nearest.beyond nearest.others)
+  where
+    at_head : near.0 ≡ tree.head
+    at_head = by_case nearest.one
+      where
+        by_case : (near.0 ≡ tree.head) ⊎ (is_among near.0 (newest.0 ∷ []) ≡ true) → near.0 ≡ tree.head
+        by_case (inl same) = same
+        by_case (inr among) = absurd (false≢true (sym (ap (λ t. t || false) other) ∙ among))
+
+    way : passed tree id ≡ nearest.beyond
+    way = passed-nearest tree (newest.0 ∷ []) id near.0 is live nearest ∙ ap (λ q. passed tree q ++ nearest.beyond) at_head ∙ ap (λ xs. xs ++ nearest.beyond) (passed-head tree is)
+
+    apart : (xs : List (List ℕ)) → AllByRecursion (λ q. is_among q (newest.0 ∷ []) ≡ false) xs → AllByRecursion (IsClear (Some newest) deltas key) xs
+    apart [] none = tt
+    apart (x ∷ xs) none = ((λ yes. absurd (false≢true (sym none.0 ∙ ap (λ t. t || false) yes))), apart xs none.1)

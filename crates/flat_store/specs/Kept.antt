@@ -69,6 +69,10 @@ is_newest newest id = unwrap_or (option_map (λ d. bytes_eq id d.0) newest) fals
 abbrev pub AreListed : Option Digest → Deltas → Lists → Type 0
 AreListed newest deltas lists = (id key : List ℕ) → is_some (change_at deltas id key) ≡ true → (is_newest newest id || is_among id (listed_at lists key)) ≡ true
 
+-- the newest block does not change the key, if it is this one
+abbrev pub IsClear : Option Digest → Deltas → (key id : List ℕ) → Type 0
+IsClear newest deltas key id = is_newest newest id ≡ true → is_some (change_at deltas id key) ≡ false
+
 -- blocks that have changes stay listed
 abbrev pub StayListed : Deltas → (old new : Lists) → Type 0
 StayListed deltas old new = (id key : List ℕ) → is_some (get deltas id) ≡ true → is_among id (listed_at old key) ≡ true → is_among id (listed_at new key) ≡ true

@@ -9,7 +9,7 @@ ghost use Rattle.fork_tree.specs.Answers.{IsPlan};
 ghost use Rattle.flat_store.specs.Flats.{HasSameBlocks, IsFlatOf, IsOnWay, keys_changed, laid_over, left_of, map_of};
 
 use crate::errors::{PairsError, PairsOverError};
-use crate::lists::{listed, settle, sweep, waits};
+use crate::lists::{listed, settle, sweep, waits_on_way};
 use crate::maps::{note, note_way, pairs_of};
 use crate::moves::{forget, keys_in, lay_passed};
 use base_core::{Changes, Digest, Limits, Pairs, Text};
@@ -102,7 +102,8 @@ impl Flat {
         requires live { is_live forks.now.tree id.now.0 ≡ true }
         ensures { IsOnWay forks.now.tree self.now key.now id.now.0 result.0 }
     {
-        if waits(self.newest, &self.deltas, key) {
+        // The newest block is not listed yet. Where it is on the way, it comes first there.
+        if waits_on_way(forks, self.newest, &self.deltas, id, key) {
             return *id;
         }
         forks.nearest(id, listed(&self.lists, key))

@@ -1,13 +1,14 @@
 ghost use Rattle.std.specs.Prelude.{◌≡◌, ◌||◌, ℕ, List, map, true, false, is_some, None, OnOk};
 ghost use Rattle.std.specs.Option.{option_copied};
-ghost use Rattle.std.specs.List.{list_any};
+ghost use Rattle.std.specs.List.{AllByRecursion, list_any};
 ghost use Rattle.std.specs.Ordering.{nat_cmp};
 ghost use Rattle.std.specs.Cmp.Lexicographic.{slice_cmp};
 ghost use Rattle.std.specs.FinMap.{find, get};
-ghost use Rattle.fork_model.specs.Trees.{is_among};
-ghost use Rattle.flat_store.specs.Kept.{AreListed, StayListed, change_at, deltas_of, ids_in, is_newest, listed_at};
+ghost use Rattle.fork_model.specs.Trees.{IsTree, is_among, is_live, passed};
+ghost use Rattle.flat_store.specs.Kept.{AreListed, IsClear, StayListed, change_at, deltas_of, ids_in, is_newest, listed_at};
 
 use base_core::{Changes, Digest};
+use fork_tree::Forks;
 use std::alloc::{AllocError, Global};
 use std::collections::HashMap;
 
@@ -22,7 +23,7 @@ pub(crate) fn listed<'l>(lists: &'l HashMap<Vec<u8>, Vec<Digest>>, key: &[u8]) -
 }
 
 /// Whether the newest block changes a key.
-pub(crate) fn waits(newest: Option<Digest>, deltas: &HashMap<Digest, Changes>, key: &[u8]) -> bool
+fn waits(newest: Option<Digest>, deltas: &HashMap<Digest, Changes>, key: &[u8]) -> bool
     ensures { result ≡ false → (id : List ℕ) → is_newest newest id ≡ true → is_some (change_at (deltas_of deltas.now.entries) id key.now) ≡ false }
 {
     let Some(newest) = newest else {
@@ -30,6 +31,27 @@ pub(crate) fn waits(newest: Option<Digest>, deltas: &HashMap<Digest, Changes>, k
     };
     match deltas.get(&newest) {
         Some(changes) => changes.get(key).is_some(),
+        None => false,
+    }
+}
+
+/// Whether the newest block changes a key and is on the way from a live one to the head.
+pub(crate) fn waits_on_way(
+    forks: &Forks,
+    newest: Option<Digest>,
+    deltas: &HashMap<Digest, Changes>,
+    id: &Digest,
+    key: &[u8],
+) -> bool
+    requires tree { IsTree forks.now.tree }
+    requires live { is_live forks.now.tree id.now.0 ≡ true }
+    ensures { result ≡ false → AllByRecursion (IsClear newest (deltas_of deltas.now.entries) key.now) (passed forks.now.tree id.now.0) }
+{
+    if !waits(newest, deltas, key) {
+        return false;
+    }
+    match newest {
+        Some(newest) => forks.nearest(id, &[newest]) == newest,
         None => false,
     }
 }
@@ -115,18 +137,21 @@ fn push(
     ensures stay { (q : List ℕ) → is_some (get (deltas_of deltas.now.entries) q) ≡ true → is_among q (ids_in ids.old.items) ≡ true → is_among q (ids_in ids.new.items) ≡ true }
     ensures ok { OnOk result (is_among id.now.0 (ids_in ids.new.items) ≡ true) }
 {
-    keep_held(ids, deltas);
+    make_room(ids, deltas)?;
     ids.push(*id)?;
     Ok(())
 }
 
-/// Takes ids without a delta out, before a list takes more memory.
-fn keep_held(ids: &mut Vec<Digest>, deltas: &HashMap<Digest, Changes>)
+/// Where there is no room for one more, takes ids without a delta out, and makes room for as many as
+/// are left, so that this is not done again soon.
+fn make_room(ids: &mut Vec<Digest>, deltas: &HashMap<Digest, Changes>) -> Result<(), AllocError>
     ensures { (q : List ℕ) → is_some (get (deltas_of deltas.now.entries) q) ≡ true → is_among q (ids_in ids.old.items) ≡ true → is_among q (ids_in ids.new.items) ≡ true }
 {
-    if ids.len() == ids.capacity() {
-        ids.retain(|id| deltas.contains_key(id));
+    if ids.len() < ids.capacity() {
+        return Ok(());
     }
+    ids.retain(|id| deltas.contains_key(id));
+    ids.reserve(ids.len())
 }
 
 /// Takes the keys out under which no block with a delta is listed, once there are twice as many

@@ -12,12 +12,13 @@ use text_store::{Nodes, Texts};
 impl<N: Nodes> Texts for Shard<N> {
     ghost use Rattle.std.specs.Prelude.{refl};
     ghost use Rattle.std.proofs.Common.{ap, ◌∙◌};
+    ghost use Rattle.shard_core.specs.Shards.{ShardState};
 
     ghost store = { shard_store N.store };
 
     ghost alike_itself = { λ a. record { nodes = N.alike_itself a.nodes; rest = refl } };
 
-    ghost alike_onward = { λ a b c first second. record { nodes = N.alike_onward a.nodes b.nodes c.nodes first.nodes second.nodes; rest = second.rest ∙ ap (λ s. record s { nodes = c.nodes }) first.rest } };
+    ghost alike_onward = { λ a b c first second. record { nodes = N.alike_onward a.nodes b.nodes c.nodes first.nodes second.nodes; rest = second.rest ∙ ap {A = ShardState N} (λ s. record s { nodes = c.nodes }) first.rest } };
 
     ghost alike_texts = { λ a b alike. N.alike_texts a.nodes b.nodes alike.nodes };
 

@@ -1,9 +1,0 @@
-use Rattle.std.proofs.Common.{is_some, rules}
-use Rattle.std.proofs.lemmas.Fn.{filter_same}
-use Rattle.flat_store.proofs.Listing.{kept-filter}
-use Rattle.flat_store.proofs.Tables.{batch_at}
-use Rattle.flat_store.proofs.lists.keep_held.Goals as goal
-
-pub returns-then-len-capacity : goal.returns-then-len-capacity
-returns-then-len-capacity c =
-    kept-filter c.args.deltas.now.entries _ _ (filter_same _ (λ d. is_some (batch_at c.args.deltas.now.entries d.0)) _ (λ x b f' k. search rules) _ _ c.retain.ensures.filtered)
