@@ -1,12 +1,9 @@
-use Rattle.std.proofs.Common.{◌≡◌, ◌≤◌, arith, ℕ, List, [], Option, Ok, Err, None, sym, ap, subst, ◌∙◌}
+use Rattle.std.proofs.Common.{◌≡◌, ℕ, List, [], Option, Ok, Err, None, sym, ap, subst, ◌∙◌}
 use Rattle.std.specs.Prelude.{Vec}
 use Rattle.std.specs.declared.alloc.Global.{Global}
-use Rattle.byte_model.specs.Nibbles.{AreBytes}
-use Rattle.byte_model.proofs.Lists.{AllByRecursion-weaker}
 use Rattle.trie_model.specs.Root.{Table}
 use Rattle.trie_model.specs.Root as trie
 use Rattle.batch_model.specs.Changes.{Changes}
-use Rattle.partial_model.specs.Recording.{IsKey}
 use Rattle.recording_model.proofs.Sound.{sound-answers, sound-places}
 use Rattle.change_model.specs.Visits.{batch_visits}
 use Rattle.change_model.specs.Places.{touched_places}
