@@ -11,3 +11,6 @@ pub mod Strangers
 pub mod Limits
 pub mod Made
 pub mod Complete
+pub mod Notes
+pub mod Proved
+pub mod Exactly

@@ -23,7 +23,7 @@ or_false true = refl
 or_false false = refl
 
 -- whether a digest is among some
-abbrev among : List (List ℕ) → List ℕ → Bool
+abbrev pub among : List (List ℕ) → List ℕ → Bool
 among digests q = list_any (λ digest. pointwise nat_eq digest q) digests
 
 turned : (q d : List ℕ) → is_same q d ≡ pointwise nat_eq d q
@@ -38,12 +38,15 @@ contains-with_all (d ∷ digests) kept q =
     ∙ ap (λ (b : Bool). among digests q || b) (contains-insert nat_list_cmp_total kept d q ∙ ap (λ (b : Bool). b || contains kept q) (turned q d))
     ∙ moved (among digests q) (pointwise nat_eq d q) (contains kept q)
 
+pub contains-all : (digests : List (List ℕ)) (q : List ℕ) → contains (with_all empty digests) q ≡ among digests q
+contains-all digests q =
+    contains-with_all digests empty q
+    ∙ ap (λ (b : Bool). among digests q || b) (contains-empty (slice_cmp nat_cmp) q)
+    ∙ or_false (among digests q)
+
 used : (digests : List (List ℕ)) (text : List ℕ) → contains (with_all empty digests) (sha256 text) ≡ is_used digests text
 unfolding is_used
-used digests text =
-    contains-with_all digests empty (sha256 text)
-    ∙ ap (λ (b : Bool). among digests (sha256 text) || b) (contains-empty (slice_cmp nat_cmp) (sha256 text))
-    ∙ or_false (among digests (sha256 text))
+used digests text = contains-all digests (sha256 text)
 
 pub unused-spare : (old new : PartialState) (digests : List (List ℕ)) → old.kept ≡ empty → old.texts ≡ new.texts → new.kept ≡ with_all old.kept digests → first_unused new ≡ first_spare digests old.texts
 unfolding first_spare

@@ -6,11 +6,14 @@ mod answers;
 mod carrying;
 mod fields;
 mod laws;
+mod noting;
 mod ops;
 mod proof;
 mod proof_error;
 mod prove_error;
+mod proving;
 mod reading;
+mod recorder;
 mod replaying;
 mod writing;
 
@@ -20,6 +23,8 @@ pub use ops::{MOST_READS, Ops};
 pub use proof::Proof;
 pub use proof_error::ProofError;
 pub use prove_error::ProveError;
+pub use proving::prove;
+pub use recorder::Recorder;
 pub use replaying::{ReplayError, Replayed, replay};
 
 #[cfg(test)]

@@ -29,7 +29,7 @@ use Rattle.recording_model.proofs.VisitedTexts.{Has}
 use Rattle.recording_model.proofs.TouchedTexts.{Touches, lookup-touches, batch-text, text-visited}
 use Rattle.recording_model.proofs.Sound.{holds_places, visited}
 use Rattle.recording_model.proofs.Sets.{in-set_of, in_set_of_from}
-use Rattle.recording_model.proofs.Exact.{digests-are, touched-in}
+use Rattle.recording_model.proofs.Exact.{touched-visited, touched-in}
 use Rattle.recording_model.proofs.Used.{none-spare}
 use Rattle.recording_model.proofs.Back.{lookup-back}
 
@@ -67,14 +67,8 @@ module _ (table : Table) (state : State) (reads : List (List ℕ)) (changes : Ch
   unfolding is_used
   touched-used text h =
       any_in (λ (digest : List ℕ). pointwise nat_eq digest (sha256 text)) (replay_visits table (root state) reads changes).digests (sha256 text)
-      (subst (λ (ds : List (List ℕ)). IsIn ds (sha256 text)) (sym (digests-are table state reads changes is bytes are apart agreeing complete-passes)) (go (text-visited state reads changes text h)))
+      (touched-visited table state reads changes is bytes are apart agreeing complete-passes text h)
       ((bytes_decides (sha256 text) (sha256 text)).1 refl)
-    where
-      go : IsIn (looked state reads).digests (sha256 text) ⊎ ((place : List ℕ) × IsIn (touched_places state [] changes) place × (text_at state place ≡ text)) → IsIn ((looked state reads).digests ++ (batch_visits table (root state) changes).digests) (sha256 text)
-      go (inl i) = in-append_left (looked state reads).digests (batch_visits table (root state) changes).digests (sha256 text) i
-      go (inr place) =
-          in-append_right (looked state reads).digests (batch_visits table (root state) changes).digests (sha256 text)
-          (subst (λ (t : List ℕ). IsIn (batch_visits table (root state) changes).digests (sha256 t)) place.2 (visited table state reads changes is bytes are apart agreeing complete-passes place.0 place.1))
 
   pub complete-used : first_spare (replay_visits table (root state) reads changes).digests (recorded_texts state reads changes) ≡ None
   complete-used = none-spare (replay_visits table (root state) reads changes).digests (recorded_texts state reads changes) (λ text h. touched-used text (in_set_of_from (touched_texts state reads changes) text h))

@@ -7,7 +7,7 @@ use Rattle.sha2.specs.Sha256.{sha256}
 use Rattle.byte_model.specs.Nibbles.{AreBytes, nibbles}
 use Rattle.trie_model.specs.State.{State, Row, IsState, rows_of}
 use Rattle.trie_model.specs.Root.{Table, NoClash, root, text_at, texts_of, places_of}
-use Rattle.trie_model.proofs.Members.{IsIn, all_at, all_of, contains_of_in, in-append_right, in-append_cases, in-map, in_map_from}
+use Rattle.trie_model.proofs.Members.{IsIn, all_at, all_of, contains_of_in, in-append_left, in-append_right, in-append_cases, in-map, in_map_from}
 use Rattle.trie_model.proofs.Worked.{Pair, rows_of_pairs}
 use Rattle.batch_model.specs.Changes.{Changes, AreChanges}
 use Rattle.batch_model.proofs.Laying.{get_of_all}
@@ -31,7 +31,7 @@ use Rattle.recording_model.proofs.Filled.{full, full-has, full-holds}
 use Rattle.recording_model.proofs.MoreBatches.{batch-more, reads-more}
 use Rattle.recording_model.proofs.VisitedTexts.{Has}
 use Rattle.recording_model.proofs.ReadTexts.{held-reads}
-use Rattle.recording_model.proofs.Sound.{both, touched-held, place_text}
+use Rattle.recording_model.proofs.Sound.{both, visited, touched-held, place_text}
 use Rattle.recording_model.proofs.TouchedTexts.{Touches, reads-touch, batch-text, text-visited}
 
 -- ---- touched texts are texts of the state
@@ -119,3 +119,29 @@ module _ (table : Table) (state : State) (reads : List (List ℕ)) (changes : Ch
 
       back : (text : List ℕ) → IsIn (touched_texts state reads changes) text → IsIn texts text
       back text i = only (sha256 text) text (touched-there text i)
+
+  -- what is touched is visited
+  pub touched-visited : (text : List ℕ) → IsIn (touched_texts state reads changes) text → IsIn digests (sha256 text)
+  touched-visited text i = subst (λ (ds : List (List ℕ)). IsIn ds (sha256 text)) (sym digests-are) (go (text-visited state reads changes text i))
+    where
+      go : IsIn (looked state reads).digests (sha256 text) ⊎ ((place : List ℕ) × IsIn (touched_places state [] changes) place × (text_at state place ≡ text)) → IsIn ((looked state reads).digests ++ batch.digests) (sha256 text)
+      go (inl h) = in-append_left (looked state reads).digests batch.digests (sha256 text) h
+      go (inr place) = in-append_right (looked state reads).digests batch.digests (sha256 text) (subst (λ (t : List ℕ). IsIn batch.digests (sha256 t)) place.2 (visited table state reads changes is bytes are apart agreeing passed place.0 place.1))
+
+  -- Of some texts of the table, whose digests are exactly those that are visited, the list is exactly that of the touched texts.
+  pub exact-visited : (texts : List (List ℕ)) → Rise texts → ((text : List ℕ) → IsIn texts text → get table (sha256 text) ≡ Some text) → ((text : List ℕ) → IsIn texts text → IsIn digests (sha256 text)) → ((digest : List ℕ) → IsIn digests digest → (text : List ℕ) × IsIn texts text × (sha256 text ≡ digest)) → texts ≡ recorded_texts state reads changes
+  exact-visited texts rise held used named = sym (texts_in-set_of texts rise) ∙ ap texts_in (same-sets texts (touched_texts state reads changes) there back)
+    where
+      one_text : (a b : List ℕ) → Some a ≡ Some b → a ≡ b
+      one_text a b e = cc e
+
+      there : (text : List ℕ) → IsIn texts text → IsIn (touched_texts state reads changes) text
+      there text i =
+          let one = visits-touched (sha256 text) (used text i) in
+          let same : one.0 ≡ text = agreeing one.0 text (contains_of_in (texts_of state) one.0 (touched-in state reads changes one.0 one.1)) (ap (get table) one.2 ∙ held text i) in
+          subst (IsIn (touched_texts state reads changes)) same one.1
+
+      back : (text : List ℕ) → IsIn (touched_texts state reads changes) text → IsIn texts text
+      back text i =
+          let one = named (sha256 text) (touched-visited text i) in
+          subst (IsIn texts) (one_text one.0 text (sym (held one.0 one.1) ∙ ap (get table) one.2 ∙ touched-there text i)) one.1
