@@ -8,7 +8,7 @@ use Rattle.sha2.specs.Sha256.{sha256}
 use Rattle.byte_model.specs.Nibbles.{AreBytes}
 use Rattle.trie_model.specs.State.{State, IsState}
 use Rattle.trie_model.specs.Root.{Table, NoClash, root, text_at, texts_of}
-use Rattle.trie_model.proofs.Members.{IsIn, all_at, all_of, contains_of_in, in_of_contains, in-append_left, in-append_right, in-append_cases}
+use Rattle.trie_model.proofs.Members.{IsIn, all_at, all_of, contains_of_in, in_of_contains, in-append_cases}
 use Rattle.visit_model.specs.Visits as looking
 use Rattle.visit_model.specs.Visits.{lookup_visits}
 use Rattle.visit_model.proofs.Lookups.{lookup_of, lookup_visits-state}
@@ -22,12 +22,11 @@ use Rattle.count_model.proofs.Held.{NoClash-part}
 use Rattle.recording_model.specs.Agreeing.{Agrees}
 use Rattle.recording_model.specs.Recorded.{touched_texts, recorded_texts}
 use Rattle.recording_model.specs.Replays.{value_among, and_reads, reads_visits, replay_visits, is_used, first_spare}
-use Rattle.recording_model.proofs.StateReads.{looked}
 use Rattle.recording_model.proofs.Behind.{both-pass}
 use Rattle.recording_model.proofs.Filled.{full, full-has, full-holds}
 use Rattle.recording_model.proofs.VisitedTexts.{Has}
-use Rattle.recording_model.proofs.TouchedTexts.{Touches, lookup-touches, batch-text, text-visited}
-use Rattle.recording_model.proofs.Sound.{holds_places, visited}
+use Rattle.recording_model.proofs.TouchedTexts.{Touches, lookup-touches, batch-text}
+use Rattle.recording_model.proofs.Sound.{holds_places}
 use Rattle.recording_model.proofs.Sets.{in-set_of, in_set_of_from}
 use Rattle.recording_model.proofs.Exact.{touched-visited, touched-in}
 use Rattle.recording_model.proofs.Used.{none-spare}
