@@ -4,7 +4,6 @@ use Rattle.std.specs.List.{AllByRecursion}
 use Rattle.std.specs.FinMap.{entries, get, len}
 use Rattle.trie_model.specs.State.{State}
 use Rattle.trie_model.specs.Root as trie
-use Rattle.trie_model.specs.Root.{Table}
 use Rattle.change_model.specs.Visits.{batch_visits}
 use Rattle.trie_model.proofs.Members.{IsIn, all_at, all_of, in-append_cases}
 use Rattle.batch_model.specs.Changes.{AreChanges, Changes, after}

@@ -2,7 +2,6 @@
 use Rattle.std.specs.Prelude.{◌≡◌, ℕ, List, Bool, true, false, Result, Ok, Err, IfSome, ⊤, length}
 use Rattle.trie_model.specs.State.{State}
 use Rattle.trie_model.specs.Root as trie
-use Rattle.trie_model.specs.Root.{total}
 use Rattle.batch_model.specs.Changes.{Changes}
 use Rattle.fork_model.specs.Trees.{Header, dropped, known, is_live, no_prev, not_higher, full, passed}
 use Rattle.fork_model.specs.States.{ForkState, head_moved, state_at, tree_of_blocks, with_block}

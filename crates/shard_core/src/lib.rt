@@ -18,4 +18,8 @@ pub use errors::{ApplyError, FlatError, HeadError, ShardPairsError, Stopped, Tri
 pub use shard::Shard;
 
 #[cfg(test)]
+mod history;
+#[cfg(test)]
+mod history_tests;
+#[cfg(test)]
 mod shard_tests;
