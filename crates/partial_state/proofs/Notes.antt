@@ -1,5 +1,5 @@
 -- The notes of loads, against the digests that are kept.
-use Rattle.std.proofs.Common.{◌≡◌, ◌≢◌, ℕ, Bool, true, false, cond, if◌then◌else◌, Result, Ok, Err, IfOk, List, [], ◌∷◌, map, Option, Some, None, Less, Equal, Greater, inl, inr, refl, sym, ap, subst, ◌∙◌}
+use Rattle.std.proofs.Common.{◌≡◌, ◌≢◌, ℕ, true, false, cond, if◌then◌else◌, Result, Ok, Err, IfOk, List, [], ◌∷◌, map, Option, Some, None, Less, Equal, Greater, inl, inr, refl, sym, ap, subst, ◌∙◌}
 use Rattle.std.specs.Prelude.{IfSome, IsSomeAnd, is_some, Contains}
 use Rattle.std.specs.Cmp.{eq_by_cmp_equiv}
 use Rattle.std.proofs.lemmas.Map.Views.{list_any-from_Contains}

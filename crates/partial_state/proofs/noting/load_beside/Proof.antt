@@ -6,14 +6,14 @@ use seplogic.Ra.Ura.{Ura}
 use base.Fraction.{full_share}
 use base.Share
 use base.Logic.{SProp, ent, sep, wand, id⊢, emp, all_e, apply∗}
-use base.Fml.{Lft, GName, Share, Fml, ftrue, flft, fobs, fauth, fres, fbor, fobor, fsep}
-use mir.Syntax.{Fn, Args, Dict, Ty, Sym, a_type, dcons, dnil, named}
+use base.Fml.{Lft, GName, Share, ftrue, flft, fobs, fres, fbor}
+use mir.Syntax.{Fn, Args, Dict, Sym, a_type, dcons, dnil, named}
 use mir.MapTy.{inst_fn}
 use mir.Val.{Val, vptr}
 use prog.Memory.{Memory, size, align, up}
 use prog.Routine.{Routine}
-use prog.Wp.{Calls, Loops, WpFn, Tables}
-use sound.WpLaws.{FmC, fm_of, WpFn-mono}
+use prog.Wp.{WpFn, Tables}
+use sound.WpLaws.{fm_of, WpFn-mono}
 use contract.BorrowLft.{◌⊑◌}
 use contract.Monad.{Fun, fact, fact_i}
 use contract.Running.{tables, tables_of}
@@ -26,15 +26,15 @@ use types.SemTy.{Body}
 use types.Follow.{takes_two, after₂, followed₂}
 use denote.Exit.{yes, no}
 use denote.RattleType.{RattleType, Denots, owns}
-use denote.Laws.{Is, Lawful, Lawfuls, shows}
+use denote.Laws.{Is, Lawful, shows}
 use denote.Memory.{mem, part_at, part_of}
 use denote.Builtin.{u8}
 use Rattle.base_core.specs.contracts.hash.Digest as Named
 use Rattle.base_core.specs.declared.hash.Digest.{Digest}
 use Rattle.base_core.specs.declared.fault.Fault.{Fault}
-use denote.Ref.{Bor, MutBor, MutRef, ShrRef, mut_vals, shr_vals, mut_Tells, shr_Tells}
+use denote.Ref.{Bor, MutBor, mut_vals, shr_vals, mut_Tells, shr_Tells}
 use denote.Follow.{such_by, follows_by, follows_so}
-use denote.Signature.{plain, mut_ref_to, shr_ref_to, type_at, types_at}
+use denote.Signature.{plain, mut_ref_to, shr_ref_to, types_at}
 use denote.Param.{param, layout, bounded}
 use denote.Param.Laws.{Laws, param_laws, of_field}
 use denote.Param.Shared.{copy_shared}
@@ -47,7 +47,7 @@ use denote.Enum.Loose.{loose_lawful}
 use denote.Steps.{heard, peeks, nothing}
 use denote.Triple.Call.{calls_at}
 use denote.Triple.Clauses.{Clauses, Ended, Lasts, lasts, closing}
-use denote.Triple.Entry.{alive, Res}
+use denote.Triple.Entry.{Res}
 use denote.Triple.Spec.{Meets, triple_of}
 use denote.Triple.Statement.{Contract, Triple}
 use denote.Triple.Table.{entered}
