@@ -1,5 +1,5 @@
--- The ids and lines of worked histories.
-use Rattle.std.specs.Prelude.{ℕ, List, ◌++◌, codes, replicate}
+-- The ids and lines of worked histories, and a worked recording.
+use Rattle.std.specs.Prelude.{ℕ, List, [], ◌∷◌, ◌++◌, codes, replicate}
 use Rattle.output_model.specs.Ends.{RunLimits, line_of}
 
 -- an id of 64 times the same digit: that of the start, and two more
@@ -26,3 +26,11 @@ ends_one = line_of (codes "end")
 -- and that it was accepted, with the root of the empty state
 abbrev pub one_accepted : List ℕ
 one_accepted = line_of (codes "block " ++ one_id ++ codes " ok " ++ start_id)
+
+-- a root that no text has here
+abbrev pub some_root : List ℕ
+some_root = replicate 32 1
+
+-- a recording of one read at that root, of the key 61, without a change and without a text
+abbrev pub one_read : List ℕ
+one_read = some_root ++ (1 ∷ 0 ∷ 0 ∷ 0 ∷ []) ++ (1 ∷ 0 ∷ 0 ∷ 0 ∷ 0x61 ∷ []) ++ (0 ∷ 0 ∷ 0 ∷ 0 ∷ []) ++ (0 ∷ 0 ∷ 0 ∷ 0 ∷ 0 ∷ [])

@@ -1,22 +1,29 @@
 //! Laws over the definitions, in other words than theirs. A law is proved where its function is: there
 //! is nothing to run.
 
-ghost use Rattle.std.specs.Prelude.{◌≡◌, ◌≢◌, ◌↔◌, ℕ, ◌+◌, Bool, true, false, List, [], ◌∷◌, length, codes, None, Some, IfSome};
+ghost use Rattle.std.specs.Prelude.{◌≡◌, ◌≢◌, ◌↔◌, ℕ, ◌+◌, Bool, true, false, List, [], ◌∷◌, length, map, codes, None, Some, IfSome};
+ghost use Rattle.std.specs.FinMap.{get};
 ghost use Rattle.std.specs.List.{list_all};
 ghost use Rattle.script_model.specs.Lines as lines;
 ghost use Rattle.script_model.specs.Lines.{Event, block, head, pieces, first_line, first_feed, first_fault, behind_line, event_if};
+ghost use Rattle.script_model.specs.Words.{command_of, replay};
 ghost use Rattle.trie_model.specs.State.{State};
-ghost use Rattle.batch_model.specs.Changes.{Changes};
+ghost use Rattle.trie_model.specs.Root as trie;
+ghost use Rattle.batch_model.specs.Changes.{Changes, after};
+ghost use Rattle.partial_model.specs.Recording.{Recording};
+ghost use Rattle.recording_model.specs.Recorded.{recorded_texts};
 ghost use Rattle.fork_model.specs.Trees.{Header, BlockFault, block_fault, is_live};
 ghost use Rattle.fork_model.specs.States.{ForkState, tree_of_blocks, after_offer, after_head};
 ghost use Rattle.count_model.specs.BlockEnds.{accepted, too_many, clashing, block_end};
 ghost use Rattle.count_model.specs.Loads.{Access, no_texts};
-ghost use Rattle.output_model.specs.Ends.{Output, RunLimits, clash_at};
+ghost use Rattle.output_model.specs.Ends.{Output, RunLimits, clash_at, done};
 ghost use Rattle.output_model.specs.Scripts.{goes_on, ends, after_line, at_last, lines_outcome};
 ghost use Rattle.output_model.specs.Root.{root_script};
 ghost use Rattle.output_model.specs.Histories.{History, outside, inside, history_step, history_script, told_step, event_loads, fault_name, block_ok, block_not, head_not};
 ghost use Rattle.output_model.specs.Apply.{apply_script};
 ghost use Rattle.output_model.specs.Readings.{same_states, same_text};
+ghost use Rattle.output_model.specs.Output.{IsOutputOf};
+ghost use Rattle.output_model.specs.Replay.{IsReplay, IsOfState, replayed};
 ghost use Rattle.output_model.specs.Laws.{IfGoesOn, state_after, keeps_blocks, tells_block, IsTold};
 
 /// The first line of what is left of an input decides what becomes of it: whether it can be read and
@@ -81,4 +88,16 @@ pub fn quiet_events_do_the_same()
     ensures outside { (limits : RunLimits) (forks : ForkState) (asked : Event) → event_loads true limits (outside forks) asked ≡ 0 }
     ensures inside { (limits : RunLimits) (forks : ForkState) (header : Header) (changes : Changes) (asked : Event) →
         event_loads true limits (inside forks header changes) asked ≡ event_loads false limits (inside forks header changes) asked }
+{}
+
+/// Each command but `replay` has one output.
+pub fn other_commands_have_one_output()
+    ensures { (limits : RunLimits) (words : List (List ℕ)) (input : List ℕ) (one other : Output) → command_of words ≢ Some replay → IsOutputOf limits words input one → IsOutputOf limits words input other → one ≡ other }
+{}
+
+/// A recording that is replayed to its end over texts that can't be taken for others of a state with its
+/// root: they are those that its reads and changes touch, and what is written is what the state has.
+pub fn replays_tell_the_state()
+    ensures texts { (recording : Recording) (state : State) (output : Output) → IsReplay recording output → output.ending ≡ done → IsOfState recording state → recording.state ≡ recorded_texts state recording.reads recording.changes }
+    ensures output { (recording : Recording) (state : State) (output : Output) → IsReplay recording output → output.ending ≡ done → IsOfState recording state → output ≡ replayed (map (get state) recording.reads) (trie.root (after state recording.changes)) }
 {}

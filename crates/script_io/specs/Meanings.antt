@@ -3,7 +3,7 @@ use Rattle.std.specs.Prelude.{◌≡◌, Option, Some, None, IsSome, Result, Ok,
 use Rattle.script_model.specs.Words as words
 use Rattle.script_model.specs.Lines as lines
 use Rattle.script_io.specs.declared.command.Command.{Command}
-use Rattle.script_io.specs.declared.command.Command.TheVariants.{Root, Apply, Get}
+use Rattle.script_io.specs.declared.command.Command.TheVariants.{Root, Apply, Get, Replay}
 use Rattle.script_io.specs.declared.event.Event.{Event}
 use Rattle.script_io.specs.declared.event.Event.TheVariants.{Nothing, Open, Set, Del, End, Head, Flat, Trie, Same, Usage, Stats}
 use Rattle.script_io.specs.declared.event.EventError.{EventError}
@@ -13,6 +13,7 @@ abbrev pub command : Command → words.Command
 command Root = words.root
 command Apply = words.apply
 command (Get id key) = words.get id.0 key
+command Replay = words.replay
 
 abbrev pub event : Event → lines.Event
 event Nothing = lines.nothing

@@ -1,7 +1,7 @@
 ghost use Rattle.std.specs.Prelude.{◌≡◌, []};
 
 use crate::sink::Sink;
-use base_core::Fault;
+use base_core::{Fault, Text};
 use std::alloc::Global;
 use std::marker::Model;
 
@@ -38,6 +38,13 @@ impl Buffer {
         ensures { result.now ≡ self.now.bytes }
     {
         self.bytes.as_slice()
+    }
+
+    /// What was written, as a text. It takes no memory.
+    pub fn into_text(self) -> Text
+        ensures { result ≡ self.bytes }
+    {
+        Text::from_bytes(self.bytes)
     }
 }
 

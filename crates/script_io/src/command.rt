@@ -21,6 +21,8 @@ pub enum Command {
     Apply,
     /// What a key has at a block, behind a history of blocks.
     Get { id: Digest, key: Text },
+    /// What the reads of a recording answer, and the root behind its changes.
+    Replay,
 }
 
 #[derive(Debug, Drop, Error)]
@@ -41,6 +43,7 @@ pub fn read_command(alloc: Global, words: &[Text]) -> Result<Command, CommandErr
     match words {
         [word] if word.as_slice() == b"root".as_slice() => Ok(Command::Root),
         [word] if word.as_slice() == b"apply".as_slice() => Ok(Command::Apply),
+        [word] if word.as_slice() == b"replay".as_slice() => Ok(Command::Replay),
         [word, id, key] if word.as_slice() == b"get".as_slice() => {
             read_get(alloc, id.as_slice(), key.as_slice())
         }

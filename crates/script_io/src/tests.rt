@@ -103,6 +103,7 @@ fn expect_command(
         Ok(Command::Root) => assert_eq!(rt; want, b"root".as_slice(), "{words:?}"),
         Ok(Command::Apply) => assert_eq!(rt; want, b"apply".as_slice(), "{words:?}"),
         Ok(Command::Get { .. }) => assert_eq!(rt; want, b"get".as_slice(), "{words:?}"),
+        Ok(Command::Replay) => assert_eq!(rt; want, b"replay".as_slice(), "{words:?}"),
         Err(error) => {
             assert!(rt; matches!(error, CommandError::Bad), "{words:?}");
             assert!(rt; want.is_empty(), "{words:?}");
@@ -116,9 +117,10 @@ const ID: &[u8; 64] = b"0123456789ABCDEF0123456789abcdef0123456789abcdef01234567
 #[test]
 fn commands(rt: HostRuntime) -> Result<(), Fail> {
     let alloc = rt.alloc();
-    let table: [(&[&[u8]], &[u8]); 14] = [
+    let table: [(&[&[u8]], &[u8]); 16] = [
         (&[b"root"], b"root"),
         (&[b"apply"], b"apply"),
+        (&[b"replay"], b"replay"),
         (&[], b""),
         (&[b""], b""),
         (&[b"Root"], b""),
@@ -126,6 +128,7 @@ fn commands(rt: HostRuntime) -> Result<(), Fail> {
         (&[b"appl"], b""),
         (&[b"root", b""], b""),
         (&[b"apply", b"root"], b""),
+        (&[b"replay", b""], b""),
         (&[b"get", ID, b"61"], b"get"),
         (&[b"get", ID], b""),
         (&[b"get", ID, b"6"], b""),

@@ -13,7 +13,7 @@ use Rattle.byte_model.specs.Nibbles.{AreBytes}
 use Rattle.byte_model.specs.Node.{longest_value}
 use Rattle.trie_model.specs.State.{IsPair, longest_key}
 use Rattle.script_model.specs.Lines.{Event, nothing, block, block_end, set, delete, head, flat, trie, same, usage, stats, both, all_three, event_of, event_of_words, is_hash, is_carriage_return, is_space}
-use Rattle.script_model.specs.Words.{Command, root, apply, get, command_of}
+use Rattle.script_model.specs.Words.{Command, root, apply, get, replay, command_of}
 use Rattle.script_model.specs.Bounds.{IsId, IsKey, IsAsked, IsCommanded}
 use Rattle.script_model.specs.Spellings.{hex_bytes, at_most, key_of, value_of, id_of, number_of, is_decimal_digit, most_digits, no_bytes}
 use Rattle.std.specs.Str.Parse.{digits_value}
@@ -171,11 +171,12 @@ IsPair-event_of line key value e = asked-within line (set key value) e
 
 -- ---- command words
 
-single-within : (b c : Bool) (asked : Command) → cond b (Some root) (cond c (Some apply) None) ≡ Some asked → IsCommanded asked
+single-within : (b c d : Bool) (asked : Command) → cond b (Some root) (cond c (Some apply) (cond d (Some replay) None)) ≡ Some asked → IsCommanded asked
 unfolding IsCommanded
-single-within true c asked e = let found : root ≡ asked = cc in subst IsCommanded found tt
-single-within false true asked e = let found : apply ≡ asked = cc in subst IsCommanded found tt
-single-within false false asked e = absurd cc
+single-within true c d asked e = let found : root ≡ asked = cc in subst IsCommanded found tt
+single-within false true d asked e = let found : apply ≡ asked = cc in subst IsCommanded found tt
+single-within false false true asked e = let found : replay ≡ asked = cc in subst IsCommanded found tt
+single-within false false false asked e = absurd cc
 
 getting-within : (b : Bool) (one two : List ℕ) (asked : Command) → cond b (both get (id_of one) (key_of two)) None ≡ Some asked → IsCommanded asked
 unfolding IsCommanded
@@ -184,7 +185,7 @@ getting-within false one two asked e = absurd cc
 
 pub command-within : (words : List (List ℕ)) (asked : Command) → command_of words ≡ Some asked → IsCommanded asked
 command-within [] asked e = absurd cc
-command-within (word ∷ []) asked e = single-within (bytes_eq word (codes "root")) (bytes_eq word (codes "apply")) asked e
+command-within (word ∷ []) asked e = single-within (bytes_eq word (codes "root")) (bytes_eq word (codes "apply")) (bytes_eq word (codes "replay")) asked e
 command-within (word ∷ a ∷ []) asked e = absurd cc
 command-within (word ∷ a ∷ b ∷ []) asked e = getting-within (bytes_eq word (codes "get")) a b asked e
 command-within (word ∷ a ∷ b ∷ c ∷ words) asked e = absurd cc

@@ -4,7 +4,7 @@ use Rattle.byte_model.specs.Nibbles.{AreBytes}
 use Rattle.byte_model.specs.Node.{digest_width}
 use Rattle.trie_model.specs.State.{IsPair, longest_key}
 use Rattle.script_model.specs.Lines.{Event, nothing, block, set, delete, block_end, head, flat, trie, same, usage, stats}
-use Rattle.script_model.specs.Words.{Command, root, apply, get}
+use Rattle.script_model.specs.Words.{Command, root, apply, get, replay}
 
 pub record IsId (id : List ℕ) : Type 0 where
   pub bytes : AreBytes id
@@ -32,3 +32,4 @@ unfoldable pub IsCommanded : Command → Type 0
 IsCommanded root = ⊤
 IsCommanded apply = ⊤
 IsCommanded (get id key) = IsId id × IsKey key
+IsCommanded replay = ⊤

@@ -15,3 +15,5 @@ pub mod Runs
 pub mod Finished
 pub mod Requests
 pub mod HistoryRuns
+-- recordings
+pub mod Recordings

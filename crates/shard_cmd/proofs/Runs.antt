@@ -7,19 +7,16 @@ use Rattle.output_model.specs.Root.{root_output}
 use Rattle.output_model.specs.Ends.{Output, Ending, RunLimits}
 use Rattle.fork_model.specs.States.{ForkState}
 use Rattle.output_model.specs.Scripts.{Outcome}
-use Rattle.output_model.specs.Output.{outcome_of, command_outcome}
+use Rattle.output_model.specs.Output.{RunOutcome, IsOutputOf, outcome_of, command_outcome, one_outcome}
+use Rattle.output_model.specs.Replay.{IsReplayOutput}
 use Rattle.script_io.specs.declared.command.Command.{Command as Asked}
 use Rattle.script_io.specs.declared.command.Command.TheVariants.{Get}
 use Rattle.script_io.specs.Meanings.{command}
 use Rattle.shard_cmd.specs.declared.reply.Reply.{Reply}
 use Rattle.shard_cmd.specs.declared.status.Status.{Status}
 use Rattle.shard_cmd.specs.declared.status.Status.TheVariants as status
-use Rattle.shard_cmd.specs.Ends.{ending_of, EndsAs, HasEnding, FinishesAs, StoreCounts}
-use Rattle.shard_cmd.specs.Replies.{IsReply}
-
-outcome_of-command : (limits : RunLimits) (words : List (List ℕ)) (input : List ℕ) (o : Option Command) → command_of words ≡ o → outcome_of limits words input ≡ command_outcome limits o input
-unfolding outcome_of
-outcome_of-command limits words input o e = ap (λ c. command_outcome limits c input) e
+use Rattle.shard_cmd.specs.Ends.{ending_of, EndsAs, EndsAsOne, HasEnding, HasOneEnding, FinishesAs, IsFailure, StoreCounts}
+use Rattle.shard_cmd.specs.Replies.{IsReply, IsOneReply}
 
 -- what the last writing of a reply makes of the run
 pub ends_with_reply : (limits : RunLimits) (left written after : Option (List ℕ)) (reply : Reply) (bytes : List ℕ) (ending : Option Ending)
@@ -30,19 +27,64 @@ ends_with_reply limits None written after reply bytes ending is same ends = tt
 ends_with_reply limits (Some input) written after reply bytes ending is same ends = ends (root_output limits input) (same ∙ is.bytes) is.ending
 
 -- what holds of what becomes of the command that the words are
-pub by_command : (P : Outcome ForkState → Type 0) (limits : RunLimits) (words : List (List ℕ)) (left : Option (List ℕ)) (o : Option Command) → command_of words ≡ o
+pub by_command : (P : RunOutcome → Type 0) (limits : RunLimits) (words : List (List ℕ)) (left : Option (List ℕ)) (o : Option Command) → command_of words ≡ o
     → IfSome left (λ input. P (command_outcome limits o input)) → IfSome left (λ input. P (outcome_of limits words input))
+unfolding outcome_of
 by_command P limits words None o e h = tt
-by_command P limits words (Some input) o e h = subst P (sym (outcome_of-command limits words input o e)) h
-
-pub told : (left : Option (List ℕ)) {P : Type 0} → P → IfSome left (λ _. P)
-told None h = tt
-told (Some input) h = h
+by_command P limits words (Some input) o e h = subst (λ (c : Option Command). P (command_outcome limits c input)) (sym e) h
 
 -- the last bytes of a run are written
 pub has_ending : (output : Output) (status end : Status) (before now : ℕ) → ending_of status ≡ Some output.ending → FinishesAs status end before now → HasEnding output (ending_of end)
 has_ending output status end before now e (inl written) = rw (written.0, e) refl
 has_ending output status end before now e (inr fault) = rw fault.0 tt
+
+-- ---- one of several outputs
+
+pub ends_one : (IsOutput : Output → Type 0) (output : Output) (ending : Option Ending) (before : List ℕ) (after : Option (List ℕ)) → IsOutput output → EndsAs output ending before after → EndsAsOne IsOutput ending before after
+ends_one IsOutput output None before after is e = inr (output, is, e)
+ends_one IsOutput output (Some ending) before after is e = (output, is, e)
+
+pub has_one : (IsOutput : Output → Type 0) (output : Output) (ending : Option Ending) → IsOutput output → HasEnding output ending → HasOneEnding IsOutput ending
+has_one IsOutput output None is e = tt
+has_one IsOutput output (Some ending) is e = (output, is, e)
+
+-- a command with one output
+pub ends_alone : (output : Output) (ending : Option Ending) (written after : Option (List ℕ)) → IfSome written (λ before. EndsAs output ending before after) → IfSome written (λ before. EndsAsOne (λ o. o ≡ output) ending before after)
+ends_alone output ending None after h = tt
+ends_alone output ending (Some before) after h = ends_one (λ o. o ≡ output) output ending before after refl h
+
+pub has_alone : (output : Output) (ending : Option Ending) → HasEnding output ending → HasOneEnding (λ o. o ≡ output) ending
+has_alone output ending h = has_one (λ o. o ≡ output) output ending refl h
+
+-- ---- a reply to a recording
+
+pub ends_with_one : (left written after : Option (List ℕ)) (reply : Reply) (bytes : List ℕ) (ending : Option Ending)
+    → IfSome left (λ input. IsOneReply (IsReplayOutput input) reply) → bytes ≡ reply.bytes
+    → ((output : Output) → bytes ≡ output.bytes → ending_of reply.status ≡ Some output.ending → IfSome written (λ before. EndsAs output ending before after))
+    → IfSome left (λ input. IfSome written (λ before. EndsAsOne (IsReplayOutput input) ending before after))
+ends_with_one None written after reply bytes ending is same ends = tt
+ends_with_one (Some input) None after reply bytes ending is same ends = tt
+ends_with_one (Some input) (Some before) after reply bytes ending is same ends = ends_one (IsReplayOutput input) is.output ending before after is.may_be (ends is.output (same ∙ is.is.bytes) is.is.ending)
+
+pub has_one_reply : (left : Option (List ℕ)) (reply : Reply) (end : Status) (before now : ℕ) → IfSome left (λ input. IsOneReply (IsReplayOutput input) reply) → FinishesAs reply.status end before now → IfSome left (λ input. HasOneEnding (IsReplayOutput input) (ending_of end))
+has_one_reply None reply end before now is finished = tt
+has_one_reply (Some input) reply end before now is finished = has_one (IsReplayOutput input) is.output (ending_of end) is.may_be (has_ending is.output reply.status end before now is.is.ending finished)
+
+-- where there is no answer nothing was written
+pub failed_one : (left written : Option (List ℕ)) (status : Status) → IsFailure status → IfSome left (λ input. IfSome written (λ before. EndsAsOne (IsReplayOutput input) (ending_of status) before written))
+failed_one None written status f = tt
+failed_one (Some input) None status f = tt
+failed_one (Some input) (Some before) status (inl e) = rw e (inl refl)
+failed_one (Some input) (Some before) status (inr e) = rw e (inl refl)
+
+pub has_failed : (left : Option (List ℕ)) (status : Status) → IsFailure status → IfSome left (λ input. HasOneEnding (IsReplayOutput input) (ending_of status))
+has_failed None status f = tt
+has_failed (Some input) status (inl e) = rw e tt
+has_failed (Some input) status (inr e) = rw e tt
+
+pub told : (left : Option (List ℕ)) {P : Type 0} → P → IfSome left (λ _. P)
+told None h = tt
+told (Some input) h = h
 
 -- the command that was read is that of the words
 pub command_read : {E : Type 0} (words : List (List ℕ)) (r : Result Asked E) (found : Asked) → r ≡ Ok found → IfOk r (λ f. command_of words ≡ Some (command f)) → command_of words ≡ Some (command found)

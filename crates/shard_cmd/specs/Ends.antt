@@ -33,6 +33,14 @@ EndsAs output None before after = AppendsPrefix before after output.bytes
 abbrev pub HasEnding : Output → Option Ending → Type 0
 HasEnding output ending = IfSome ending (λ e. e ≡ output.ending)
 
+-- The same of a run that may have several outputs: it has one of them. Where memory or an object of the outside failed, nothing was written, or a prefix of one.
+abbrev pub EndsAsOne : (Output → Type 0) → Option Ending → List ℕ → Option (List ℕ) → Type 0
+EndsAsOne IsOutput (Some ending) before after = (output : Output) × IsOutput output × EndsAs output (Some ending) before after
+EndsAsOne IsOutput None before after = (after ≡ Some before) ⊎ ((output : Output) × IsOutput output × EndsAs output None before after)
+
+abbrev pub HasOneEnding : (Output → Type 0) → Option Ending → Type 0
+HasOneEnding IsOutput ending = IfSome ending (λ e. (output : Output) × IsOutput output × (e ≡ output.ending))
+
 -- what a run may end with whose words are no command
 abbrev pub IsUsageUnlessFailed : Status → Type 0
 IsUsageUnlessFailed status = (status ≡ Usage) ⊎ (status ≡ WriteFault)
@@ -40,6 +48,10 @@ IsUsageUnlessFailed status = (status ≡ Usage) ⊎ (status ≡ WriteFault)
 -- what a run may end with that carries out a command and does not fail
 abbrev pub IsAnswer : Status → Type 0
 IsAnswer status = (status ≡ Done) ⊎ (status ≡ Syntax) ⊎ (status ≡ Refused)
+
+-- and one that carries out a recording
+abbrev pub IsReplayAnswer : Status → Type 0
+IsReplayAnswer status = IsAnswer status ⊎ (status ≡ Clash)
 
 -- what keeps a run from an answer before it writes one
 abbrev pub IsFailure : Status → Type 0

@@ -7,3 +7,5 @@ pub mod Events
 pub mod Histories
 pub mod Sending
 pub mod Requests
+-- recordings
+pub mod Recordings

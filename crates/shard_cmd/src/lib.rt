@@ -7,6 +7,8 @@ mod events;
 mod get;
 mod history;
 mod readings;
+mod recording_replies;
+mod replay;
 mod reply;
 mod reply_lines;
 mod root;
@@ -20,6 +22,8 @@ pub use status::{Outcome, Status};
 
 #[cfg(test)]
 mod apply_tests;
+#[cfg(test)]
+mod replay_tests;
 #[cfg(test)]
 mod shard_tests;
 #[cfg(test)]

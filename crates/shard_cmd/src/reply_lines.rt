@@ -93,7 +93,7 @@ pub fn put_stats(replies: &mut Buffer, stats: &Stats) -> Result<(), Fault>
     Ok(())
 }
 
-/// The line `clash DIGEST`, of the digest that texts of a block share.
+/// The line `clash DIGEST`, of the digest that texts share.
 pub fn put_clash(replies: &mut Buffer, digest: &Digest) -> Result<(), Fault>
     ensures { OnOk result (replies.new.bytes ≡ replies.old.bytes ++ line_of (codes "clash " ++ encode_lower digest.now.0)) }
 {
@@ -103,7 +103,8 @@ pub fn put_clash(replies: &mut Buffer, digest: &Digest) -> Result<(), Fault>
     Ok(())
 }
 
-fn put_digits(replies: &mut Buffer, id: &Digest) -> Result<(), Fault>
+/// The 64 digits of an id or a digest.
+pub fn put_digits(replies: &mut Buffer, id: &Digest) -> Result<(), Fault>
     ensures { OnOk result (replies.new.bytes ≡ replies.old.bytes ++ encode_lower id.now.0) }
 {
     let mut digits = [0; 64];

@@ -2,16 +2,17 @@ ghost use Rattle.std.specs.Prelude.{◌≡◌, ◌≢◌, ◌≤◌, [], Some, N
 ghost use Rattle.std.specs.FinMap.{empty};
 ghost use Rattle.base_core.specs.Bounds.{AreLimits};
 ghost use Rattle.base_core.specs.Faults.{Rose, faults_after};
-ghost use Rattle.script_model.specs.Words.{command_of, root};
+ghost use Rattle.script_model.specs.Words.{command_of, root, replay};
 ghost use Rattle.text_store.specs.Leaves.{CountsLoads};
 ghost use Rattle.output_model.specs.Ends.{bad_command};
 ghost use Rattle.output_model.specs.Root.{root_output};
-ghost use Rattle.output_model.specs.Output.{output_of, outcome_of};
-ghost use Rattle.shard_cmd.specs.Ends.{run_limits, ending_of, EndsAs, HasEnding, IsUsageUnlessFailed, SourceCounts, StoreCounts, source_ended, sink_ended, run_ended};
+ghost use Rattle.output_model.specs.Output.{IsOutputOf, outcome_of};
+ghost use Rattle.shard_cmd.specs.Ends.{run_limits, ending_of, EndsAs, EndsAsOne, HasEnding, HasOneEnding, IsUsageUnlessFailed, SourceCounts, StoreCounts, source_ended, sink_ended, run_ended};
 ghost use Rattle.shard_cmd.specs.HandedBack.{IfSettled, HoldsBlocks};
 
 use crate::apply::run_apply;
 use crate::get::run_get;
+use crate::replay::run_replay;
 use crate::root::answer_root;
 use crate::status::{Outcome, Status};
 use crate::writing::finish;
@@ -36,16 +37,16 @@ pub fn run<S: Source, K: Sink, N: Nodes>(
 
     // The bytes that come in and those that go out, and the status with them.
     ensures output { IfSome (S.left source.old) (λ input. IfSome (K.written sink.old) (λ before.
-        EndsAs (output_of (run_limits limits.now) words.now input) (ending_of result.status) before (K.written sink.new))) }
+        EndsAsOne (IsOutputOf (run_limits limits.now) words.now input) (ending_of result.status) before (K.written sink.new))) }
     ensures nothing_left { result.status ≡ Status.Done → IfSome (S.left source.old) (λ _. S.left source.new ≡ Some []) }
 
     // Where the sink tells nothing, the status; and where the source tells nothing, the bytes of the
     // one output that no input changes.
-    ensures status { IfSome (S.left source.old) (λ input. HasEnding (output_of (run_limits limits.now) words.now input) (ending_of result.status)) }
+    ensures status { IfSome (S.left source.old) (λ input. HasOneEnding (IsOutputOf (run_limits limits.now) words.now input) (ending_of result.status)) }
     ensures bad_command { command_of words.now ≡ None → IfSome (K.written sink.old) (λ before. EndsAs bad_command (ending_of result.status) before (K.written sink.new)) }
 
     // What the store holds in the end, and how many texts were loaded.
-    ensures counts { command_of words.now ≢ Some root → IfSome (S.left source.old) (λ input.
+    ensures counts { command_of words.now ≢ Some root → command_of words.now ≢ Some replay → IfSome (S.left source.old) (λ input.
         IfSettled result.status (HoldsBlocks (N.store.texts result.nodes) (N.count_of result.nodes) (outcome_of (run_limits limits.now) words.now input).left)) }
     ensures loads { IfSome (S.left source.old) (λ input.
         CountsLoads (run_ended result.status) (N.store.loads nodes) (N.store.loads result.nodes) (outcome_of (run_limits limits.now) words.now input).loaded) }
@@ -60,9 +61,14 @@ pub fn run<S: Source, K: Sink, N: Nodes>(
     ensures root_untouched { command_of words.now ≡ Some root → result.nodes ≡ nodes }
     ensures root_no_store_fault { command_of words.now ≡ Some root → result.status ≢ Status.StoreFault }
 
+    // Nor does `replay`.
+    ensures replay_untouched { command_of words.now ≡ Some replay → result.nodes ≡ nodes }
+    ensures replay_no_store_fault { command_of words.now ≡ Some replay → result.status ≢ Status.StoreFault }
+
     // A fault of the outside has a cause, and is told where it came.
     ensures source_faults { SourceCounts result.status (S.faults source.old) (S.faults source.new) }
     ensures root_source_faults { command_of words.now ≡ Some root → S.faults source.new ≡ faults_after (source_ended result.status) (S.faults source.old) }
+    ensures replay_source_faults { command_of words.now ≡ Some replay → S.faults source.new ≡ faults_after (source_ended result.status) (S.faults source.old) }
     ensures sink_faults { K.faults sink.new ≡ faults_after (sink_ended result.status) (K.faults sink.old) }
     ensures store_faults { StoreCounts result.status (N.store.faults nodes) (N.store.faults result.nodes) }
     ensures source_counts { S.faults source.old ≤ S.faults source.new }
@@ -81,6 +87,10 @@ pub fn run<S: Source, K: Sink, N: Nodes>(
         Ok(Command::Get { id, key }) => {
             run_get(alloc, source, sink, nodes, limits, &id, key.as_slice())
         }
+        Ok(Command::Replay) => Outcome {
+            status: run_replay(alloc, source, sink),
+            nodes,
+        },
         Err(CommandError::Bad) => Outcome {
             status: finish(sink, b"bad command\n", Status::Usage),
             nodes,

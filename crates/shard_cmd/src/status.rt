@@ -9,7 +9,8 @@ pub enum Status {
     NoMemory = 1,
     /// The words are no command. Nothing was read.
     Usage = 2,
-    /// A line is none of a script, or stands where it may not. Its number was written.
+    /// A line is none of a script, or stands where it may not, and its number was written; or the
+    /// input is no recording, and the offset was written.
     Syntax = 3,
     /// What was asked for is refused, by the name that was written.
     Refused = 4,
@@ -19,7 +20,7 @@ pub enum Status {
     WriteFault = 6,
     /// The store failed.
     StoreFault = 7,
-    /// Texts of a block clash. Their digest was written.
+    /// Texts clash. Their digest was written.
     Clash = 8,
 }
 

@@ -21,3 +21,7 @@ returns-clause-second_apply c = λ limits input. refl
 pub returns-clause-get_alone : goal.returns-clause-get_alone
 unfolding outcome_of
 returns-clause-get_alone c = λ limits input. refl
+
+pub returns-clause-second_replay : goal.returns-clause-second_replay
+unfolding outcome_of
+returns-clause-second_replay c = λ limits input. refl

@@ -16,3 +16,7 @@ returns-clause-root c = λ limits input. refl
 pub returns-clause-no_input : goal.returns-clause-no_input
 unfolding outcome_of script_outcome lines_outcome request_loads loads
 returns-clause-no_input c = λ limits. refl
+
+pub returns-clause-replay : goal.returns-clause-replay
+unfolding outcome_of
+returns-clause-replay c = λ limits input. refl

@@ -10,5 +10,9 @@ pub returns-in-len1-2-clause-within : goal.returns-in-len1-2-clause-within
 unfolding IsCommanded
 returns-in-len1-2-clause-within c = tt
 
+pub returns-in-len1-3-clause-within : goal.returns-in-len1-3-clause-within
+unfolding IsCommanded
+returns-in-len1-3-clause-within c = tt
+
 pub returns-in-len3-clause-within : goal.returns-in-len3-clause-within
 returns-in-len3-clause-within c = got-within c.as_slice-in-len3.result.now c.as_slice-in-len3-2.result.now c.read_get.result c.read_get.ensures.ok
