@@ -1,5 +1,5 @@
 -- The command `replay`: the whole input is a recording, and its reads and changes are carried out over its own texts, with nothing else at hand. What is written follows from the bytes, but for two things where the recording has not the texts that its changes touch, of a state with its root: which root stands behind the changes, and whether texts that they make share a digest.
-use Rattle.std.specs.Prelude.{◌≡◌, ◌≢◌, ℕ, nat_lt, Bool, true, false, List, [], ◌∷◌, ◌++◌, length, map, codes, Option, None, Some, Result, Ok, Err, ◌⊎◌}
+use Rattle.std.specs.Prelude.{◌≡◌, ◌≢◌, ℕ, nat_lt, Bool, true, false, List, [], ◌∷◌, ◌++◌, length, map, codes, Option, None, Some, Result, Ok, Err, ◌⊎◌, Contains}
 use Rattle.std.specs.FinMap.{get, from_entries}
 use Rattle.hex.specs.Hex.{encode_lower}
 use Rattle.sha2.specs.Sha256.{sha256}
@@ -10,6 +10,7 @@ use Rattle.trie_model.specs.State.{State, IsState}
 use Rattle.trie_model.specs.Root as trie
 use Rattle.trie_model.specs.Root.{Table, NoClash, texts_of}
 use Rattle.batch_model.specs.Changes.{after}
+use Rattle.change_model.specs.Ledger.{made_texts}
 use Rattle.change_model.specs.Places.{touched_places}
 use Rattle.change_model.specs.Tables.{HoldsPlaces}
 use Rattle.partial_model.specs.Recording.{Recording, RecordingFault, frame, head, order, clash, recording_in}
@@ -87,12 +88,13 @@ pub record IsDigest (bytes : List ℕ) : Type 0 where
   pub are_bytes : AreBytes bytes
   pub width : length bytes ≡ digest_width
 
--- All was carried out, and each text was visited.
+-- All was carried out, and each text was visited. Over the texts of a state no two different texts that the changes make share a digest.
 pub record IsCarriedOut (recording : Recording) (answers : List (Option (List ℕ))) (output : Output) : Type 0 where
   pub root : List ℕ
   pub output_is : output ≡ replayed answers root
   pub root_is : IsDigest root
   pub behind : (state : State) → StandsOn recording state → root ≡ trie.root (after state recording.changes)
+  pub clear : (state : State) → StandsOn recording state → (a b : List ℕ) → Contains (made_texts state recording.changes) a → Contains (made_texts state recording.changes) b → sha256 a ≡ sha256 b → a ≡ b
   pub tells : (state : State) → IsOfState recording state → TellsState recording state answers root
 
 -- Two different texts share a digest. Over the texts of a state it is the least one that different texts share which the changes make.

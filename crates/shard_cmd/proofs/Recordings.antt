@@ -171,7 +171,8 @@ module _ (proof : Proof) where
       root = done.root.0;
       output_is = ap (λ (answers : List (Option (List ℕ))). replayed answers done.root.0) answer.1;
       root_is = record { are_bytes = is.0; width = is.1 };
-      behind = λ m stands. state m stands.is stands.held stands.root;
+      behind = λ m stands. (state m stands.is stands.held stands.root).0;
+      clear = λ m stands. (state m stands.is stands.held stands.root).1;
       tells = λ m of. record {
         texts = exact m of.is of.apart of.root;
         answers_are = sym answer.1 ∙ (sound m of.is of.apart of.root).answers;
