@@ -14,16 +14,14 @@ use Rattle.fork_model.proofs.States.{block_of-at}
 use Rattle.count_model.specs.Loads.{Access, loads}
 use Rattle.text_store.specs.Store.{Store}
 use Rattle.text_store.specs.Leaves.{CountsLoads}
-use Rattle.base_core.specs.declared.limits.Limits.{Limits}
 use Rattle.shard_core.specs.Shards.{ShardState}
 use Rattle.shard_core.specs.ShardAnswers.{LeavesReading}
 use Rattle.shard_core.specs.declared.errors.TrieError.TheVariants as trie_error
 use Rattle.output_model.specs.Ends.{RunLimits}
 use Rattle.shard_cmd.specs.Ends.{run_limits}
 use Rattle.script_io.specs.Streams.{Appends}
-use Rattle.output_model.specs.Readings.{read_text, value_text, usage_text, same_states, same_text}
+use Rattle.output_model.specs.Readings.{read_text, value_text, usage_text, same_text}
 use Rattle.output_model.proofs.Same.{text-yes, text-no}
-use Rattle.shard_cmd.specs.declared.history.Halt.{Halt}
 use Rattle.shard_cmd.specs.declared.history.Halt.TheVariants as halt
 use Rattle.shard_cmd.specs.Histories.{Answers, IsGoing, Reads, gathered_as, step_ended}
 

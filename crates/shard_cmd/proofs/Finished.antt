@@ -1,10 +1,10 @@
 -- What is counted where a history has ended with a status and what was gathered is written.
-use Rattle.std.proofs.Common.{◌≡◌, ◌≢◌, ℕ, List, Option, inl, inr, refl, sym, ap, ◌∙◌}
+use Rattle.std.proofs.Common.{◌≡◌, ◌≢◌, ℕ, List, Option, inl, inr, refl, ap, ◌∙◌}
 use Rattle.std.specs.Prelude.{◌⊎◌}
 use Rattle.base_core.specs.Faults.{risen, faults_after}
 use Rattle.shard_cmd.specs.declared.status.Status.{Status}
 use Rattle.shard_cmd.specs.declared.status.Status.TheVariants as status
-use Rattle.shard_cmd.specs.Ends.{Finishes, FinishesAs, SourceCounts, StoreCounts, sink_ended, source_ended, store_ended}
+use Rattle.shard_cmd.specs.Ends.{Finishes, SourceCounts, StoreCounts, sink_ended, source_ended, store_ended}
 
 -- the run ends as the history did, or the sink failed
 pub finished : (given ended : Status) (bytes : List ℕ) (before after : Option (List ℕ)) (faults now : ℕ) → Finishes given ended bytes before after faults now → (P : Status → Type 0) → P given → P status.WriteFault → P ended

@@ -1,43 +1,40 @@
 -- What lines make of a history, and the replies to them.
 use Rattle.std.proofs.Common.{◌≡◌, ◌≢◌, ℕ, true, false, List, [], ◌++◌, Option, None, Some, Result, Ok, Err, OnOk, refl, sym, ap, subst, ◌∙◌, append_assoc, append-nil}
-use Rattle.std.specs.Prelude.{codes, ◌||◌, Bool, length}
+use Rattle.std.specs.Prelude.{codes, ◌||◌, Bool}
 use Rattle.std.specs.Option.{option_map}
 use Rattle.std.specs.Fmt.{decimal}
 use Rattle.std.specs.FinMap.{empty}
 use Rattle.hex.specs.Hex.{encode_lower}
 use Rattle.script_model.specs.Lines as lines
 use Rattle.script_model.specs.Bounds.{IsAsked, IsKey}
-use Rattle.trie_model.specs.State.{State}
-use Rattle.trie_model.specs.Root as trie
 use Rattle.batch_model.specs.Changes.{Changes}
 use Rattle.base_core.specs.ChangeMaps as maps
 use Rattle.base_core.specs.ChangeMaps.{ChangeMap}
-use Rattle.base_core.specs.Faults.{risen, faults_after, done}
+use Rattle.base_core.specs.Faults.{risen, faults_after}
 use Rattle.base_core.specs.declared.fault.Fault.{Fault}
 use Rattle.base_core.specs.declared.hash.Digest.{Digest}
-use Rattle.base_core.specs.declared.limits.Limits.{Limits}
-use Rattle.fork_model.specs.Trees.{Header, is_live, passed, dropped}
-use Rattle.fork_model.specs.States.{ForkState, tree_of_blocks, with_block, head_moved}
+use Rattle.fork_model.specs.Trees.{Header}
+use Rattle.fork_model.specs.States.{ForkState, with_block, head_moved}
 use Rattle.count_model.specs.BlockEnds.{BlockEnd, block_end}
 use Rattle.count_model.specs.Loads.{Access, carry_out, no_texts, loads}
 use Rattle.text_store.specs.Store.{Store}
 use Rattle.text_store.specs.Leaves.{CountsLoads}
 use Rattle.shard_core.specs.Answers.{apply_ended}
 use Rattle.shard_core.specs.Shards.{IsShardOf, ShardState}
-use Rattle.shard_core.specs.ShardAnswers.{AnswersApply, AnswersMove, LeavesApply, LeavesMove, cuts_short, cuts_move_short, head_ended}
+use Rattle.shard_core.specs.ShardAnswers.{AnswersApply, AnswersMove, LeavesApply, LeavesMove, cuts_short}
 use Rattle.shard_core.specs.declared.block.Applied.{Applied}
 use Rattle.shard_core.specs.declared.block.HeadMoved.{HeadMoved}
 use Rattle.shard_core.specs.declared.errors.ApplyError.{ApplyError}
 use Rattle.shard_core.specs.declared.errors.ApplyError.TheVariants as apply_error
 use Rattle.shard_core.specs.declared.errors.HeadError.TheVariants as head_error
-use Rattle.output_model.specs.Ends.{RunLimits, line_of, syntax_at, clash_at}
+use Rattle.output_model.specs.Ends.{RunLimits, line_of, syntax_at}
 use Rattle.output_model.specs.Scripts.{goes_on, ends}
 use Rattle.output_model.specs.Histories.{step_by, history_step, inside, changed, offered, access_of, event_loads, told_step}
 use Rattle.shard_cmd.specs.declared.history.Opened.{Opened}
 use Rattle.shard_cmd.specs.declared.history.Halt.{Halt}
 use Rattle.shard_cmd.specs.declared.history.Halt.TheVariants as halt
 use Rattle.shard_cmd.specs.Ends.{run_limits}
-use Rattle.shard_cmd.specs.Histories.{header_of, open_of, history_of, IsOpened, GoesOn, EndsAt, Does, IsGoing, Steps, Answers, Reads, gathered_as, outside_as, refusal_of, skipped, step_ended}
+use Rattle.shard_cmd.specs.Histories.{header_of, open_of, history_of, IsOpened, Does, IsGoing, Steps, Answers, Reads, gathered_as, outside_as, refusal_of, skipped, step_ended}
 use Rattle.shard_cmd.proofs.Answered.{loads_end, no_loads, risen-none}
 use Rattle.shard_cmd.proofs.Puts.{has_no_room}
 

@@ -1,6 +1,5 @@
 -- How reading a history ends, and how far its outcome was written then.
-use Rattle.std.proofs.Common.{◌≡◌, ◌≢◌, ℕ, ◌+◌, ◌≤◌, Bool, List, [], ◌++◌, Option, Some, None, Result, Ok, Err, IfSome, inl, inr, refl, sym, ap, subst, ◌∙◌, append-nil, arith}
-use Rattle.std.specs.Prelude.{◌⊎◌}
+use Rattle.std.proofs.Common.{◌≡◌, ◌≢◌, ℕ, ◌+◌, ◌≤◌, Bool, List, [], ◌++◌, Option, Some, None, Ok, Err, IfSome, inl, inr, sym, ap, ◌∙◌, append-nil, arith}
 use Rattle.base_core.specs.Faults.{risen, faults_after}
 use Rattle.base_core.specs.declared.hash.Digest.{Digest}
 use Rattle.fork_model.specs.States.{ForkState}
@@ -22,8 +21,8 @@ use Rattle.shard_cmd.specs.declared.status.Status.{Status}
 use Rattle.shard_cmd.specs.declared.status.Status.TheVariants as status
 use Rattle.shard_cmd.specs.Events.{NextIs, IsNext, event_ended}
 use Rattle.shard_cmd.specs.Ends.{source_ended, sink_ended, store_ended}
-use Rattle.shard_cmd.specs.Histories.{history_of, Does, EndsAt, step_ended}
-use Rattle.shard_cmd.specs.Sending.{Sends, Reaches, Loads, IsWithin, Stops, Fails, EndsHistory, IsPut, ended_with, request_at, halted_end, stopped_end, whole_end}
+use Rattle.shard_cmd.specs.Histories.{history_of, Does, step_ended}
+use Rattle.shard_cmd.specs.Sending.{Sends, Reaches, IsWithin, Stops, Fails, EndsHistory, IsPut, ended_with, request_at, halted_end, stopped_end, whole_end}
 use Rattle.shard_cmd.proofs.Scripts.{IsUpTo, ends_asked, ends_early, ends_unread, ends_whole, ends_within, onward-onward}
 use Rattle.shard_cmd.proofs.Sending.{Sends-more, reaches, risen-risen, within, stops, fails, fails_unsent}
 

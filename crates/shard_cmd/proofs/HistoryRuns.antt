@@ -16,7 +16,7 @@ use Rattle.output_model.specs.Output.{live_behind}
 use Rattle.script_io.specs.Streams.{AppendsPrefix}
 use Rattle.shard_cmd.specs.declared.status.Status.{Status}
 use Rattle.shard_cmd.specs.declared.status.Status.TheVariants as status
-use Rattle.shard_cmd.specs.Ends.{EndsAs, HasEnding, Finishes, FinishesAs, IsWritten, WritesNone, ending_of, run_ended}
+use Rattle.shard_cmd.specs.Ends.{EndsAs, HasEnding, Finishes, FinishesAs, IsWritten, ending_of, run_ended}
 use Rattle.shard_cmd.specs.HandedBack.{EndsRun, HoldsBlocks, IfSettled}
 use Rattle.shard_cmd.specs.Histories.{IsGoing}
 use Rattle.shard_cmd.specs.Requests.{Gets}

@@ -1,5 +1,5 @@
 -- What becomes of the bytes of a recording, as the reply to them.
-use Rattle.std.proofs.Common.{◌≡◌, ◌≢◌, ◌<◌, ◌≤◌, ℕ, ◌==◌, Bool, true, false, cond, ◌+◌, List, [], ◌∷◌, ◌++◌, length, drop, Option, None, Some, Result, Ok, Err, IfOk, IfSome, inl, inr, refl, sym, ap, subst, ◌∙◌, arith, append_assoc, append-nil}
+use Rattle.std.proofs.Common.{◌≡◌, ◌<◌, ◌≤◌, ℕ, ◌==◌, Bool, true, false, cond, ◌+◌, List, [], ◌∷◌, ◌++◌, length, drop, Option, None, Some, Result, Ok, Err, IfOk, IfSome, inl, inr, refl, sym, ap, subst, ◌∙◌, arith, append_assoc, append-nil}
 use Rattle.std.specs.Prelude.{◌⊎◌, OnOk, codes, nat_lt, slice_get}
 use Rattle.std.specs.Option.{IsSomeAnd}
 use Rattle.std.proofs.lemmas.Bool.{le-ltb, lt-ltb}
@@ -26,12 +26,11 @@ use Rattle.partial_state.specs.declared.proof.Proof.{Proof}
 use Rattle.partial_state.specs.declared.proof_error.ProofError.{ProofError}
 use Rattle.partial_state.specs.declared.proof_error.ProofError.TheVariants as unread
 use Rattle.partial_state.specs.declared.replaying.Replayed.{Replayed}
-use Rattle.partial_state.specs.declared.replaying.ReplayError.{ReplayError}
 use Rattle.partial_state.specs.declared.replaying.ReplayError.TheVariants as error
 use Rattle.partial_state.specs.Recordings.{recording_of, IsRefused}
 use Rattle.partial_state.specs.Replays.{AnswersReplay, IsReplayOf, ReplaysState, visits_of}
 use Rattle.output_model.specs.Ends.{Output, line_of, syntax_at, clash_at, refused_place}
-use Rattle.output_model.specs.Replay.{IsByLength, IsByReading, IsByRefusal, IsBySpare, IsCarriedOut, IsClashed, IsOfState, IsReplay, IsReplayOutput, StandsOn, TellsState, behind_changes, no_recording, read_line, read_lines, replayed, test_failed}
+use Rattle.output_model.specs.Replay.{IsByLength, IsByReading, IsByRefusal, IsBySpare, IsCarriedOut, IsClashed, IsReplay, IsReplayOutput, behind_changes, no_recording, read_line, read_lines, replayed, test_failed}
 use Rattle.script_io.specs.FeedStates.{AllIs, FeedState}
 use Rattle.shard_cmd.specs.declared.reply.Reply.{Reply}
 use Rattle.shard_cmd.specs.Recordings.{fault_told, status_of}

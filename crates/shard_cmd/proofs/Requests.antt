@@ -1,5 +1,5 @@
 -- The last request of `get`.
-use Rattle.std.proofs.Common.{◌≡◌, ◌≢◌, ℕ, ◌+◌, ◌≤◌, List, [], ◌++◌, append_assoc, append-nil, Option, Some, None, Result, Ok, Err, OnOk, inl, inr, refl, sym, ap, subst, ◌∙◌, arith}
+use Rattle.std.proofs.Common.{◌≡◌, ◌≢◌, ℕ, ◌≤◌, List, ◌++◌, append_assoc, Option, Some, None, Result, Ok, Err, OnOk, inl, inr, refl, sym, ap, subst, ◌∙◌, arith}
 use Rattle.std.specs.Prelude.{◌⊎◌}
 use Rattle.std.specs.Option.{IsSomeAnd}
 use Rattle.base_core.specs.Faults.{risen, faults_after}
@@ -10,7 +10,7 @@ use Rattle.count_model.specs.Loads.{look_up, loads}
 use Rattle.count_model.specs.Counts.{in_state}
 use Rattle.text_store.specs.Store.{Store}
 use Rattle.shard_core.specs.Shards.{ShardState}
-use Rattle.output_model.specs.Ends.{Output, RunLimits, done, not_live}
+use Rattle.output_model.specs.Ends.{RunLimits, done, not_live}
 use Rattle.output_model.specs.Readings.{flat_line, trie_line}
 use Rattle.output_model.specs.Get.{get_from, get_request}
 use Rattle.shard_cmd.specs.declared.history.Halt.{Halt}

@@ -1,13 +1,11 @@
 -- How a run ends, by what was written last.
-use Rattle.std.proofs.Common.{◌≡◌, ◌≢◌, ◌≤◌, ℕ, List, Option, Some, None, Result, Ok, IfOk, IfSome, inl, inr, refl, sym, ap, subst, ◌∙◌, arith}
+use Rattle.std.proofs.Common.{◌≡◌, ◌≢◌, ◌≤◌, ℕ, List, Option, Some, None, Result, Ok, IfOk, IfSome, inl, inr, refl, sym, subst, ◌∙◌, arith}
 use Rattle.base_core.specs.declared.hash.Digest.{Digest}
 use Rattle.script_model.specs.Bounds.{IsCommanded, IsKey}
 use Rattle.script_model.specs.Words.{Command, command_of}
 use Rattle.output_model.specs.Root.{root_output}
 use Rattle.output_model.specs.Ends.{Output, Ending, RunLimits}
-use Rattle.fork_model.specs.States.{ForkState}
-use Rattle.output_model.specs.Scripts.{Outcome}
-use Rattle.output_model.specs.Output.{RunOutcome, IsOutputOf, outcome_of, command_outcome, one_outcome}
+use Rattle.output_model.specs.Output.{RunOutcome, outcome_of, command_outcome}
 use Rattle.output_model.specs.Replay.{IsReplayOutput}
 use Rattle.script_io.specs.declared.command.Command.{Command as Asked}
 use Rattle.script_io.specs.declared.command.Command.TheVariants.{Get}

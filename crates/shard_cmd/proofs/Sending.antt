@@ -1,7 +1,6 @@
 -- Replies that are gathered, and what was written of them.
 use Rattle.std.proofs.Common.{◌≡◌, ℕ, ◌+◌, ◌≤◌, List, [], ◌++◌, Option, Some, None, IfSome, sym, ap, subst, ◌∙◌, append_assoc, append-nil, arith}
 use Rattle.base_core.specs.Faults.{risen}
-use Rattle.output_model.specs.Ends.{Output}
 use Rattle.output_model.specs.Scripts.{Outcome, onward}
 use Rattle.script_io.specs.Streams.{AppendsPrefix}
 use Rattle.shard_cmd.specs.Sending.{Sends, Reaches, Loads, IsWithin, Stops, Fails}

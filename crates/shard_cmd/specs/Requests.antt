@@ -1,6 +1,6 @@
 -- The last request of `get`, over a shard.
-use Rattle.std.specs.Prelude.{◌≡◌, ℕ, ◌≤◌, List, ◌++◌, Result, Ok, Err, ⊤}
-use Rattle.base_core.specs.Faults.{risen, faults_after}
+use Rattle.std.specs.Prelude.{◌≡◌, ℕ, List, ◌++◌, Result, Ok, Err, ⊤}
+use Rattle.base_core.specs.Faults.{faults_after}
 use Rattle.fork_model.specs.States.{ForkState}
 use Rattle.count_model.specs.Loads.{look_up, loads}
 use Rattle.text_store.specs.Store.{Store}

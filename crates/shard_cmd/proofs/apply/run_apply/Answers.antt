@@ -1,10 +1,9 @@
-use Rattle.std.proofs.Common.{◌≡◌, ℕ, ◌∙◌, List, [], ap, refl, sym, subst}
+use Rattle.std.proofs.Common.{ap}
 use Rattle.count_model.specs.Loads.{no_texts}
 use Rattle.output_model.specs.Apply.{apply_script, nothing_more}
 use Rattle.output_model.specs.Scripts.{script_outcome}
 use Rattle.output_model.specs.Output.{live_behind}
-use Rattle.base_core.specs.Faults.{faults_after}
-use Rattle.shard_cmd.specs.Ends.{run_limits, store_ended}
+use Rattle.shard_cmd.specs.Ends.{run_limits}
 use Rattle.shard_cmd.specs.declared.status.Status.TheVariants.{NoMemory}
 use Rattle.shard_cmd.specs.HandedBack.{EndsRun}
 use Rattle.shard_cmd.specs.Histories.{IsGoing}

@@ -1,10 +1,9 @@
-use Rattle.std.proofs.Common.{◌≡◌, ℕ, ◌∙◌, List, [], ap, refl, sym, subst}
+use Rattle.std.proofs.Common.{ℕ, ap}
 use Rattle.count_model.specs.Loads.{look_up}
 use Rattle.output_model.specs.Get.{get_request, get_script}
 use Rattle.output_model.specs.Scripts.{script_outcome}
 use Rattle.output_model.specs.Output.{live_behind}
-use Rattle.base_core.specs.Faults.{faults_after}
-use Rattle.shard_cmd.specs.Ends.{run_limits, store_ended}
+use Rattle.shard_cmd.specs.Ends.{run_limits}
 use Rattle.shard_cmd.specs.declared.status.Status.TheVariants.{NoMemory}
 use Rattle.shard_cmd.specs.HandedBack.{EndsRun}
 use Rattle.shard_cmd.specs.Histories.{IsGoing}

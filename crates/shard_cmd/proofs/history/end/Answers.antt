@@ -1,4 +1,4 @@
-use Rattle.std.proofs.Common.{◌≡◌, ◌∙◌, Ok, Err, ap, subst, sym}
+use Rattle.std.proofs.Common.{◌∙◌, Ok, Err, ap, subst, sym}
 use Rattle.base_core.specs.Faults.{risen}
 use Rattle.count_model.specs.BlockEnds.{block_end}
 use Rattle.count_model.specs.Loads.{carry_out, loads}

@@ -1,4 +1,3 @@
-use Rattle.std.proofs.Common.{[]}
 use Rattle.script_io.specs.Meanings.{event}
 use Rattle.shard_cmd.specs.Ends.{run_limits}
 use Rattle.shard_cmd.proofs.Histories.{quiet_inside, quiet_outside}

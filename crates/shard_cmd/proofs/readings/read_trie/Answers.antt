@@ -1,8 +1,8 @@
 use Rattle.std.proofs.Common.{Err, sym, ap}
 use Rattle.std.specs.Prelude.{codes, ◌++◌}
-use Rattle.count_model.specs.Loads.{look_up, tell_usage}
+use Rattle.count_model.specs.Loads.{look_up}
 use Rattle.output_model.specs.Ends.{line_of}
-use Rattle.output_model.specs.Readings.{read_text, usage_text}
+use Rattle.output_model.specs.Readings.{read_text}
 use Rattle.shard_cmd.proofs.Answered.{appended, no_state_at, reads_not_live}
 use Rattle.shard_cmd.proofs.readings.read_trie.Goals as goal
 

@@ -1,5 +1,4 @@
-use Rattle.std.proofs.Common.{Result, IfOk, IfSome, sym, ap, subst}
-use Rattle.std.specs.declared.alloc.AllocError.{AllocError}
+use Rattle.std.proofs.Common.{Result, IfOk, IfSome, sym, subst}
 use Rattle.output_model.specs.Replay.{IsReplayOutput}
 use Rattle.shard_cmd.specs.Replies.{IsOneReply}
 use Rattle.shard_cmd.specs.declared.reply.Reply.{Reply}

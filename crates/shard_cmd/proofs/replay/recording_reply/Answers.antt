@@ -1,4 +1,4 @@
-use Rattle.std.proofs.Common.{◌≡◌, Result, IfOk, sym, ap, subst}
+use Rattle.std.proofs.Common.{Result, IfOk, sym, ap, subst}
 use Rattle.partial_model.specs.Recording.{Recording, RecordingFault, recording_in}
 use Rattle.text_store.specs.PartialStates.{PartialState}
 use Rattle.output_model.specs.Replay.{IsByReading}

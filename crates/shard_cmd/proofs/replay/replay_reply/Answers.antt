@@ -1,4 +1,4 @@
-use Rattle.shard_cmd.proofs.Recordings.{replayed-reply, missing-reply, bad-reply, usage-reply, clash-reply, spare-reply}
+use Rattle.shard_cmd.proofs.Recordings.{replayed-reply, clash-reply, spare-reply}
 use Rattle.shard_cmd.proofs.replay.replay_reply.Goals as goal
 
 pub returns-in-Ok-clause-reply : goal.returns-in-Ok-clause-reply

@@ -1,4 +1,4 @@
-use Rattle.std.proofs.Common.{◌≡◌, refl, sym, ap, ◌∙◌, Ok, Err, Some, None, IfSome, List, ℕ}
+use Rattle.std.proofs.Common.{◌≡◌, refl, sym, ap, ◌∙◌, Ok, Err, Some, None, IfSome}
 use Rattle.script_io.specs.declared.command.Command.TheVariants.{Root, Apply, Get, Replay}
 use Rattle.script_model.specs.Words.{root, apply, get, replay}
 use Rattle.text_store.specs.Leaves.{CountsLoads}
@@ -10,7 +10,7 @@ use Rattle.output_model.specs.Root.{root_output}
 use Rattle.output_model.specs.Output.{live_behind}
 use Rattle.shard_cmd.specs.Ends.{ending_of, run_ended, run_limits, EndsAs, EndsAsOne, HasEnding, HasOneEnding}
 use Rattle.shard_cmd.specs.HandedBack.{EndsRun, IfSettled, HoldsBlocks}
-use Rattle.shard_cmd.specs.declared.status.Status.TheVariants.{NoMemory, Usage}
+use Rattle.shard_cmd.specs.declared.status.Status.TheVariants.{Usage}
 use Rattle.shard_cmd.proofs.Answered.{no_loads}
 use Rattle.shard_cmd.proofs.Runs.{by_command, by_input, each_input, ends_alone, has_alone, told, has_ending, command_read, got_key, store_same}
 use Rattle.shard_cmd.proofs.running.run.Goals as goal

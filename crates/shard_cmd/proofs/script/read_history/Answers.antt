@@ -1,15 +1,12 @@
-use Rattle.std.proofs.Common.{◌≡◌, ℕ, ◌+◌, [], ◌++◌, ◌∙◌, List, Option, Ok, ap, refl}
+use Rattle.std.proofs.Common.{ℕ, ◌+◌, [], ◌++◌, ◌∙◌, ap, refl}
 use Rattle.base_core.specs.Faults.{risen}
-use Rattle.fork_model.specs.States.{ForkState, first_fork}
-use Rattle.count_model.specs.Loads.{Access, no_texts}
-use Rattle.output_model.specs.Ends.{Output}
+use Rattle.fork_model.specs.States.{first_fork}
+use Rattle.count_model.specs.Loads.{no_texts}
 use Rattle.output_model.specs.Apply.{nothing_more}
-use Rattle.output_model.specs.Scripts.{Outcome, onward, script_outcome}
-use Rattle.output_model.specs.Histories.{History, history_script, event_loads}
+use Rattle.output_model.specs.Histories.{history_script, event_loads}
 use Rattle.script_io.specs.Meanings.{event}
 use Rattle.shard_cmd.specs.Ends.{run_limits}
 use Rattle.shard_cmd.specs.Histories.{IsGoing, history_of}
-use Rattle.shard_cmd.specs.Sending.{Fails}
 use Rattle.shard_cmd.proofs.Scripts.{IsUpTo-begin, IsUpTo-next, ends_early, nothing_left}
 use Rattle.shard_cmd.proofs.Answered.{risen-none}
 use Rattle.shard_cmd.proofs.Sending.{Sends-begin, Sends-more, Sends-then, Sends-fails, risen-risen}
