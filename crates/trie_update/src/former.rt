@@ -26,6 +26,7 @@ pub(crate) enum Parent<'a> {
 }
 
 impl<'a> Parent<'a> {
+    #[inline(always)]
     pub(crate) fn behind(&self, nibble: u8) -> Former<'a>
         requires { nibble < 16 }
         ensures place { (table : Table) (depth : ℕ) → FitsParent depth self.now → place_of table (depth + 1) result ≡ place_behind table depth self.now nibble }

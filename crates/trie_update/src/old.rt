@@ -33,6 +33,7 @@ pub(crate) enum Old<'p> {
 
 impl<'p> Old<'p> {
     /// The value that it has where its path is used up after so many nibbles.
+    #[inline(never)]
     pub(crate) fn value_at(&self, count: usize) -> Option<ValueRef>
         ensures { result ≡ value_behind count self.now }
     {
@@ -82,6 +83,7 @@ impl<'p> Old<'p> {
     }
 
     /// It as a subtree, where no key is changed.
+    #[inline(always)]
     pub(crate) fn sub(&self, alloc: Global) -> Result<Sub, AllocError>
         ensures { IfOk result (λ sub. sub ≡ sub_of self.now) }
     {

@@ -159,6 +159,7 @@ pub(crate) fn at_path<T: Texts>(
 }
 
 /// The branch that is reached after so many nibbles, if one is.
+#[inline(never)]
 fn led_to(old: &Old<'_>, count: usize) -> Option<Digest>
     ensures { result ≡ led_by count old.now }
 {
@@ -330,6 +331,7 @@ fn room_for_children(alloc: Global) -> Result<Vec<Child>, UpdateError>
     }
 }
 
+#[inline(always)]
 fn push(children: &mut Vec<Child>, child: Child) -> Result<(), UpdateError>
     ensures items { OnOk result (children.new.items ≡ children.old.items ++ child ∷ []) }
     ensures error { IfErr result (λ error. error ≡ NoMemory) }
@@ -377,6 +379,7 @@ fn at_former<T: Texts>(
 }
 
 /// The child that stood behind a nibble, where no key is changed.
+#[inline(always)]
 fn unchanged(alloc: Global, former: &Former<'_>) -> Result<Child, UpdateError>
     ensures child { IfOk result (λ child. kid_of child ≡ kid_before former.now) }
     ensures error { IfErr result (λ error. error ≡ NoMemory) }

@@ -16,6 +16,7 @@ use std::alloc::{AllocError, Global};
 use trie_shape::value_ref;
 
 /// What a key that ends here has after the batch, with what is gained and lost for it.
+#[inline(always)]
 pub(crate) fn value_after(
     alloc: Global,
     ledger: &mut Ledger,
@@ -42,6 +43,7 @@ pub(crate) fn value_after(
     }
 }
 
+#[inline(always)]
 fn delete(ledger: &mut Ledger, former: Option<ValueRef>) -> Result<(), UpdateError>
     requires room { CanCount ledger.old 1 }
     requires named { IsNamed ledger.old }
@@ -57,6 +59,7 @@ fn delete(ledger: &mut Ledger, former: Option<ValueRef>) -> Result<(), UpdateErr
     Ok(())
 }
 
+#[inline(always)]
 fn set(
     alloc: Global,
     ledger: &mut Ledger,
@@ -81,6 +84,7 @@ fn set(
 }
 
 /// Before a value is set: the former one is lost, or else the key appears.
+#[inline(always)]
 fn replace(ledger: &mut Ledger, former: Option<ValueRef>) -> Result<(), UpdateError>
     requires room { CanCount ledger.old 1 }
     requires named { IsNamed ledger.old }
