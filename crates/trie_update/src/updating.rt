@@ -91,6 +91,7 @@ pub(crate) fn at_digest<T: Texts>(
 /// A leaf or an extension that was read, whose record states so much: no less than it costs by itself
 /// and its branch states, if that was visited.
 #[cycle(update)]
+#[inline(always)]
 fn at_old<T: Texts>(
     alloc: Global,
     store: &mut T,
