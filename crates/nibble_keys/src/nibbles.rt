@@ -64,6 +64,7 @@ impl<'a> Nibbles<'a> {
 
     /// The length of the longest common prefix. It compares bytes where both begin at the same half
     /// of a byte.
+    #[inline(always)]
     pub fn common(&self, other: &Nibbles<'_>) -> u64
         ensures { IsCommonLength self.now other.now result }
     {

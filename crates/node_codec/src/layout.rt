@@ -30,6 +30,7 @@ pub(crate) enum Layout<'a> {
 
 /// The fields of a record, and the usage that it states.
 #[tactic(auto, unfolding(record_model::specs::Records::layout_of, record_model::specs::Records::layout_at, record_model::specs::Fields::end_of))]
+#[inline(always)]
 pub(crate) fn read_layout(bytes: &[u8]) -> Result<(Layout<'_>, u64), BorshError>
     ensures { Answers (λ r. (layout_viewed r.0, r.1)) result (layout_of bytes.now) }
 {
@@ -44,6 +45,7 @@ pub(crate) fn read_layout(bytes: &[u8]) -> Result<(Layout<'_>, u64), BorshError>
 
 /// The fields behind the ordinal of a kind, which stands at this offset.
 #[tactic(auto, unfolding(record_model::specs::Records::kind_at))]
+#[inline(always)]
 fn read_kind<'a>(reader: &mut Reader<'a>, at: u64, kind: u8) -> Result<Layout<'a>, BorshError>
     ensures { Follows layout_viewed result reader.old reader.new (kind_at at kind) }
 {

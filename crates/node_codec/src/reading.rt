@@ -13,6 +13,7 @@ use nibble_keys::{PackError, Packed};
 
 /// Reads the record of a node where it stands: the node, and the usage that the record states. It
 /// takes no memory, and accepts exactly the one spelling of each node (`write_node` gives it).
+#[inline(always)]
 pub fn read_node(bytes: &[u8]) -> Result<(NodeView<'_>, u64), NodeError>
     // What is read is spelled so.
     ensures found { IfOk result (λ r. IsRecord (node_viewed r.0) r.1 bytes.now) }
@@ -25,6 +26,7 @@ pub fn read_node(bytes: &[u8]) -> Result<(NodeView<'_>, u64), NodeError>
 }
 
 #[tactic(auto, unfolding(record_model::specs::Records::record_in))]
+#[inline(always)]
 fn read_record(bytes: &[u8]) -> Result<(NodeView<'_>, u64), NodeError>
     ensures read { Answers (λ r. (node_viewed r.0, r.1)) result (record_in bytes.now) }
     ensures bytes { AreBytes bytes.now }
@@ -40,6 +42,7 @@ fn read_record(bytes: &[u8]) -> Result<(NodeView<'_>, u64), NodeError>
 
 /// The node of a record's fields.
 #[tactic(auto, unfolding(record_model::specs::Records::node_in, record_model::specs::Records::shaped))]
+#[inline(always)]
 fn read_fields(layout: Layout<'_>) -> Result<NodeView<'_>, NodeError>
     ensures { Answers node_viewed result (node_in (layout_viewed layout.entry)) }
 {

@@ -27,6 +27,7 @@ pub(crate) enum Next {
 
 /// Where a node leads a key whose nibbles above the node are used up.
 #[tactic(auto, unfolding(crate::specs::Lookups::leads))]
+#[inline(always)]
 pub(crate) fn follow(node: &NodeView<'_>, depth: u64, key: &[u8]) -> Next
     requires depth { depth ≤ length (nibbles key.now) }
     requires short { length key.now ≤ longest_key }

@@ -30,6 +30,7 @@ pub(crate) fn load_text<'s, T: Texts>(
 
 /// The node of a text that was loaded, with the usage that its record states, if it fits below so
 /// many nibbles, as the child of an extension or not.
+#[inline(always)]
 pub(crate) fn node_in<'a>(
     text: &'a [u8],
     digest: &Digest,

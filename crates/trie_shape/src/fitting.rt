@@ -41,6 +41,7 @@ pub fn fits(view: &NodeView<'_>, depth: u64, after_extension: bool) -> bool
 
 /// The node that a text spells, with the usage that its record states, if such a node may stand
 /// there: below so many nibbles, as the child of an extension or not. It takes no memory.
+#[inline(always)]
 pub fn fitting_node(text: &[u8], depth: u64, after_extension: bool) -> Option<(NodeView<'_>, u64)>
     ensures { option_map (λ found. (node_viewed found.0, found.1)) result ≡ fitting_node depth after_extension text.now }
 {

@@ -64,3 +64,5 @@ pub mod Batches
 pub mod StateAnswers
 -- the call over sorted changes
 pub mod Finishing
+-- a place where one key ends
+pub mod Alone

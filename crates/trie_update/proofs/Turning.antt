@@ -82,13 +82,13 @@ pub record IsGathered {S : Type 0} (store : Store S) (depth : ℕ) (former : Opt
 
 -- before the first turn: the value's change is made
 
-appears : {X : Type 0} (former : Option X) (change : Option (Option (List ℕ))) → appearing former change ≤ 1
+pub appears : {X : Type 0} (former : Option X) (change : Option (Option (List ℕ))) → appearing former change ≤ 1
 appears former None = omega arith
 appears former (Some None) = omega arith
 appears None (Some (Some value)) = omega arith
 appears (Some held) (Some (Some value)) = omega arith
 
-disappears : {X : Type 0} (former : Option X) (change : Option (Option (List ℕ))) → disappearing former change ≤ 1
+pub disappears : {X : Type 0} (former : Option X) (change : Option (Option (List ℕ))) → disappearing former change ≤ 1
 disappears former None = omega arith
 disappears None (Some None) = omega arith
 disappears (Some held) (Some None) = omega arith

@@ -26,3 +26,5 @@ pub mod Balances
 pub mod Updates
 -- the root, before its record is written
 pub mod Sorted
+-- where nothing goes on
+pub mod Alone

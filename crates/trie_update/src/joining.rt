@@ -100,7 +100,8 @@ pub(crate) fn join(
     }
 }
 
-fn no_children(alloc: Global, value: Option<ValueRef>) -> Sub
+/// What is left without children: the value alone, if there is one.
+pub(crate) fn no_children(alloc: Global, value: Option<ValueRef>) -> Sub
     ensures { top_of_sub result ≡ childless (option_map value_of value) }
 {
     match value {

@@ -5,6 +5,7 @@ ghost use Rattle.trie_shape.specs.declared.sub.Sub.TheVariants as sub;
 ghost use Rattle.trie_shape.specs.Runs.{goes_on};
 ghost use Rattle.trie_shape.specs.Shows.{under_of};
 ghost use Rattle.trie_update.specs.ChangesAt.{AreChangesAt, AllGoOn, BeginAsFirst, Lent, changes_at};
+ghost use Rattle.trie_update.specs.Alone.{ends_by};
 ghost use Rattle.trie_update.specs.Olds.{value_behind, IsBehind, sub_of, BeginAs, BeginAsOld, PartBehind};
 
 use crate::parting::KeyChange;
@@ -47,6 +48,17 @@ impl<'p> Old<'p> {
             }
             Old::Nothing => None,
             Old::Extension { .. } => None,
+        }
+    }
+
+    /// Whether nothing stood below any nibble after so many.
+    pub(crate) fn ends(&self, count: usize) -> bool
+        ensures { result ≡ ends_by count self.now }
+    {
+        match self {
+            Old::Nothing => true,
+            Old::Leaf { path, .. } => path.len() == count,
+            Old::Extension { .. } => false,
         }
     }
 
@@ -140,6 +152,7 @@ fn behind(path: &[u8], count: usize) -> &[u8]
 }
 
 /// How many nibbles some keys share from a depth on, with each other and with a path.
+#[inline(never)]
 pub(crate) fn shared_length(old: &Old<'_>, changes: &[KeyChange<'_>], depth: u64) -> usize
     requires changes { AreChangesAt depth changes.now }
     requires some { 1 ≤ length changes.now }

@@ -1,4 +1,4 @@
-ghost use Rattle.std.specs.Prelude.{◌≡◌, ◌+◌, ◌≤◌, ◌<◌, [], drop, length, option_map, IfSome};
+ghost use Rattle.std.specs.Prelude.{◌≡◌, ◌+◌, ◌≤◌, ◌<◌, [], ◌∷◌, drop, length, option_map, IfSome};
 ghost use Rattle.byte_model.specs.Nibbles.{nibbles};
 ghost use Rattle.byte_model.specs.Node.{longest_value};
 ghost use Rattle.batch_model.specs.Changes.{found_at};
@@ -28,6 +28,24 @@ pub(crate) fn ending<'a, 'b>(
         (Some(value), rest)
     } else {
         (None, changes)
+    }
+}
+
+/// What the changed key becomes, where it is the only one and ends at a depth.
+pub(crate) fn alone<'b>(changes: &[KeyChange<'b>], depth: u64) -> Option<Option<&'b [u8]>>
+    requires { AreChangesAt depth changes.now }
+    ensures lone { IfSome result (λ value. changes_at depth changes.now ≡ ([], value_lent value) ∷ []) }
+    ensures short { IfSome result (λ value. IfSome value (λ v. length v.now ≤ longest_value)) }
+{
+    match changes {
+        [(key, value)] => {
+            if Nibbles::new(key).len() == depth {
+                Some(*value)
+            } else {
+                None
+            }
+        }
+        _ => None,
     }
 }
 

@@ -1,4 +1,4 @@
-ghost use Rattle.std.specs.Prelude.{◌≡◌, ◌+◌, ◌≤◌, ◌<◌, ℕ, false, ◌∷◌, ◌++◌, [], length, take, drop, option_map, slice_index_or, IfSome, OnOk, IfOk, IfErr};
+ghost use Rattle.std.specs.Prelude.{◌≡◌, ◌+◌, ◌≤◌, ◌<◌, ℕ, false, ◌∷◌, ◌++◌, [], length, take, drop, option_map, slice_index_or, Some, IfSome, OnOk, IfOk, IfErr};
 ghost use Rattle.byte_model.specs.Nibbles.{nibbles};
 ghost use Rattle.byte_model.specs.Node.{longest_value};
 ghost use Rattle.byte_model.specs.PackedPath.{longest_path};
@@ -7,22 +7,22 @@ ghost use Rattle.visit_model.specs.Seen.{Seen, branch, seen_at, seen_child, stat
 ghost use Rattle.change_model.specs.Visits.{before, branch_cost, closed, most_usage, visits_at, visits_below};
 ghost use Rattle.node_codec.specs.Meanings.{children_in, value_of};
 ghost use Rattle.update_model.specs.Tops.{lowered};
-ghost use Rattle.update_model.specs.Updates.{branch_outcome, fork_outcome, laid, updated};
-ghost use Rattle.trie_update.specs.Accounts.{CanCount, IsNamed};
+ghost use Rattle.update_model.specs.Updates.{branch_outcome, fork_outcome, laid, ref_after, updated};
+ghost use Rattle.trie_update.specs.Accounts.{CanCount, GrowsBy, IsNamed};
 ghost use Rattle.trie_update.specs.Carries.{Carries};
-ghost use Rattle.trie_update.specs.ChangesAt.{AreChangesAt, Lent, changes_at};
+ghost use Rattle.trie_update.specs.ChangesAt.{AreChangesAt, Lent, changes_at, value_lent};
 ghost use Rattle.trie_update.specs.Places.{FitsFormer, FitsParent, FitsTop, Keeps, NoBranch, Reaches, TopKeeps, led_by, old_past, place_behind, place_of, place_visits, seen_past, top_stated, top_visits};
 ghost use Rattle.trie_update.specs.Placed.{IsChild, IsParted, IsPlaced, branch_inside, kid_before, run_at};
-ghost use Rattle.trie_update.specs.Subs.{kid_of, top_of_sub};
+ghost use Rattle.trie_update.specs.Subs.{childless, kid_of, top_of_sub};
 ghost use Rattle.trie_update.specs.declared.errors.UpdateError.TheVariants.{NoMemory};
 
 use crate::errors::UpdateError;
 use crate::former::{Former, Parent};
-use crate::joining::{Child, Left, join, under};
+use crate::joining::{Child, Left, join, no_children, under};
 use crate::ledger::Ledger;
 use crate::merging::settle;
 use crate::old::{Old, shared_length};
-use crate::parting::{KeyChange, ending, run_length};
+use crate::parting::{KeyChange, alone, ending, run_length};
 use crate::values::value_after;
 use crate::visiting::{Visited, states_enough, visit};
 use base_core::Digest;
@@ -160,7 +160,7 @@ pub(crate) fn at_path<T: Texts>(
 }
 
 /// The branch that is reached after so many nibbles, if one is.
-#[inline(never)]
+#[inline(always)]
 fn led_to(old: &Old<'_>, count: usize) -> Option<Digest>
     ensures { result ≡ led_by count old.now }
 {
@@ -178,7 +178,7 @@ fn led_to(old: &Old<'_>, count: usize) -> Option<Digest>
 }
 
 /// Puts so many nibbles of the changed keys, which all have them, before what a place has become.
-#[inline(never)]
+#[inline(always)]
 fn lower(
     alloc: Global,
     placed: Placed,
@@ -242,10 +242,40 @@ fn at_fork<T: Texts>(
     ensures keeps { OnOk result (TopKeeps depth (seen_past (T.store.texts store.old) depth shared old.now) (old_past shared old.now) (changes_at depth changes.now)) }
 {
     let value = old.value_at(shared);
+    if old.ends(shared) {
+        if let Some(change) = alone(changes, depth) {
+            let only = value_alone(alloc, ledger, value, change)?;
+            return Ok(Placed {
+                sub: only,
+                stated: 0,
+            });
+        }
+    }
     let parent = Parent::Path(*old, shared);
     let (left, stated) = at_nibbles(alloc, store, ledger, value, &parent, changes, depth)?;
     let sub = join(alloc, ledger, left, 0)?;
     Ok(Placed { sub, stated })
+}
+
+/// What becomes of a place where one key ends, and nothing else stands. It is a call of its own, so
+/// that a place takes little of the stack.
+#[inline(never)]
+fn value_alone(
+    alloc: Global,
+    ledger: &mut Ledger,
+    former: Option<ValueRef>,
+    change: Option<&[u8]>,
+) -> Result<Sub, UpdateError>
+    requires short { IfSome change (λ v. length v.now ≤ longest_value) }
+    requires room { CanCount ledger.old 1 }
+    requires named { IsNamed ledger.old }
+    ensures top { IfOk result (λ sub. top_of_sub sub ≡ childless (ref_after (option_map value_of former) (Some (value_lent change.entry)))) }
+    ensures grows { OnOk result (GrowsBy ledger.old ledger.new (option_map value_of former) (Some (value_lent change.entry))) }
+    ensures names { OnOk result (IsNamed ledger.new) }
+    ensures error { IfErr result (λ error. error ≡ NoMemory) }
+{
+    let value = value_after(alloc, ledger, former, Some(change))?;
+    Ok(no_children(alloc, value))
 }
 
 /// A branch that was read, whose record states so much.
