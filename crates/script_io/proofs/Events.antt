@@ -2,10 +2,9 @@
 use Rattle.std.proofs.Common.{◌≡◌, ◌≢◌, ℕ, Bool, true, false, cond, List, [], ◌∷◌, length, Option, is_some, Some, None, Result, Ok, Err, IfOk, refl, sym, ap, ◌∙◌, arith}
 use Rattle.std.specs.Prelude.{slice_get, IsSome, if◌then◌else◌}
 use Rattle.std.specs.List.{slice_split, list_any}
-use Rattle.std.specs.Option.{option_map}
 use Rattle.std.proofs.lemmas.Bool.{ne_eqb}
 use Rattle.std.proofs.lemmas.List.Splits.{length-slice_split}
-use Rattle.script_model.specs.Lines.{Event, nothing, set, both, event_of, event_of_words, is_space, is_carriage_return}
+use Rattle.script_model.specs.Lines.{Event, nothing, both, event_of, event_of_words, is_space, is_carriage_return}
 use Rattle.script_io.specs.declared.event.Event.{Event as Asked}
 use Rattle.script_io.specs.declared.event.Event.TheVariants.{Nothing}
 use Rattle.script_io.specs.declared.event.EventError.{EventError}
@@ -35,17 +34,9 @@ event-more line word rest a more b last c d e f g h =
     ap event_of_words (after_word line word rest _ e (after_word rest a more _ f (after_word more b last _ g h)))
     ∙ five_words word a b c (slice_split is_space d) (λ none. absurd (omega (arith, length-slice_split is_space d)))
 
--- ---- what was read, by what it is made of
+-- ---- a key and a value, by what was read of the key
 
-mapped_some : (make : List ℕ → Event) (bytes : Option (List ℕ)) → IsSome bytes → IsSome (option_map make bytes)
-mapped_some make None h = absurd cc
-mapped_some make (Some found) h = refl
-
-pub mapped_refused : (make : List ℕ → Event) (bytes : Option (List ℕ)) (error : EventError) (r : Result Asked EventError) → IsRead (λ (found : List ℕ). found) bytes (Err error) → r ≡ Err error → IsRead event (option_map make bytes) r
-mapped_refused make bytes Bad r h e = rw e (ap (option_map make) h)
-mapped_refused make bytes NoMemory r h e = rw e (mapped_some make bytes h)
-
--- what was read of a key, where none is one that found no memory
+-- none is a key that found no memory
 abbrev pub IsKept : (meant key : Option (List ℕ)) → Type 0
 IsKept meant None = IsSome meant
 IsKept meant (Some key) = meant ≡ Some key
@@ -54,27 +45,30 @@ some_of : (meant key : Option (List ℕ)) → IsKept meant key → IsSome meant
 some_of meant None h = h
 some_of meant (Some key) h = ap is_some h
 
-no_pair : (key : Option (List ℕ)) → both set key None ≡ None
+abbrev pub pair : List ℕ → List ℕ → List ℕ × List ℕ
+pair k v = (k, v)
+
+no_pair : (key : Option (List ℕ)) → both pair key None ≡ None
 no_pair None = refl
 no_pair (Some key) = refl
 
-pair_some : (key value : Option (List ℕ)) → IsSome key → IsSome value → IsSome (both set key value)
+pair_some : (key value : Option (List ℕ)) → IsSome key → IsSome value → IsSome (both pair key value)
 pair_some None value h k = absurd cc
 pair_some (Some key) None h k = absurd cc
 pair_some (Some key) (Some value) h k = refl
 
-pub pair_read : (key value : Option (List ℕ)) (k v : List ℕ) → key ≡ Some k → value ≡ Some v → both set key value ≡ Some (set k v)
-pair_read key value k v e f = ap (λ o. both set o value) e ∙ ap (both set (Some k)) f
+pub pair_read : (key value : Option (List ℕ)) (k v : List ℕ) → key ≡ Some k → value ≡ Some v → both pair key value ≡ Some (k, v)
+pair_read key value k v e f = ap (λ o. both pair o value) e ∙ ap (both pair (Some k)) f
 
-pub pair_unkept : (key value : Option (List ℕ)) (v : List ℕ) → IsSome key → value ≡ Some v → IsSome (both set key value)
+pub pair_unkept : (key value : Option (List ℕ)) (v : List ℕ) → IsSome key → value ≡ Some v → IsSome (both pair key value)
 pair_unkept key value v h e = pair_some key value h (ap is_some e)
 
-pub pair_bad_key : (key value : Option (List ℕ)) → key ≡ None → both set key value ≡ None
-pair_bad_key key value e = ap (λ o. both set o value) e
+pub pair_bad_key : (key value : Option (List ℕ)) → key ≡ None → both pair key value ≡ None
+pair_bad_key key value e = ap (λ o. both pair o value) e
 
-pub pair_refused : (key value kept : Option (List ℕ)) (error : EventError) (r : Result Asked EventError) → IsKept key kept → IsRead (λ (bytes : List ℕ). bytes) value (Err error) → r ≡ Err error → IsRead event (both set key value) r
-pair_refused key value kept Bad r k h e = rw e (ap (both set key) h ∙ no_pair key)
-pair_refused key value kept NoMemory r k h e = rw e (pair_some key value (some_of key kept k) h)
+pub pair_refused : {A : Type 0} (view : A → List ℕ × List ℕ) (key value kept : Option (List ℕ)) (error : EventError) (r : Result A EventError) → IsKept key kept → IsRead (λ (bytes : List ℕ). bytes) value (Err error) → r ≡ Err error → IsRead view (both pair key value) r
+pair_refused view key value kept Bad r k h e = rw e (ap (both pair key) h ∙ no_pair key)
+pair_refused view key value kept NoMemory r k h e = rw e (pair_some key value (some_of key kept k) h)
 
 -- ---- a line of a script
 

@@ -7,3 +7,4 @@ pub mod Numbers
 pub mod Events
 pub mod FirstLine
 pub mod Commands
+pub mod Operations

@@ -2,12 +2,14 @@ ghost use Rattle.std.specs.Prelude.{◌≡◌, Some, None, IsSome, IfOk};
 ghost use Rattle.script_model.specs.Bounds.{IsCommanded};
 ghost use Rattle.script_model.specs.Lines.{both};
 ghost use Rattle.script_model.specs.Spellings.{id_of, key_of};
-ghost use Rattle.script_model.specs.Words.{command_of, get};
+ghost use Rattle.script_model.specs.Words.{command_of, few_ops_of, get, prove};
 ghost use Rattle.script_io.specs.Meanings.{command};
 
 use crate::event::EventError;
 use crate::event_words::read_key;
 use crate::ids::read_id;
+use crate::op_list::OpList;
+use crate::op_words::read_ops;
 use base_core::{Digest, Text};
 use std::alloc::Global;
 use thiserror::Error;
@@ -21,6 +23,8 @@ pub enum Command {
     Apply,
     /// What a key has at a block, behind a history of blocks.
     Get { id: Digest, key: Text },
+    /// A recording of reads and changes at a block, behind a history of blocks.
+    Prove { id: Digest, ops: OpList },
     /// What the reads of a recording answer, and the root behind its changes.
     Replay,
 }
@@ -47,6 +51,9 @@ pub fn read_command(alloc: Global, words: &[Text]) -> Result<Command, CommandErr
         [word, id, key] if word.as_slice() == b"get".as_slice() => {
             read_get(alloc, id.as_slice(), key.as_slice())
         }
+        [word, id, ops @ ..] if word.as_slice() == b"prove".as_slice() && !ops.is_empty() => {
+            read_prove(alloc, id.as_slice(), ops)
+        }
         _ => Err(CommandError::Bad),
     }
 }
@@ -62,6 +69,22 @@ fn read_get(alloc: Global, id: &[u8], key: &[u8]) -> Result<Command, CommandErro
     };
     match read_key(alloc, key) {
         Ok(key) => Ok(Command::Get { id, key }),
+        Err(EventError::Bad) => Err(CommandError::Bad),
+        Err(EventError::NoMemory) => Err(CommandError::NoMemory),
+    }
+}
+
+/// The command that asks for a recording at a block.
+fn read_prove(alloc: Global, id: &[u8], ops: &[Text]) -> Result<Command, CommandError>
+    ensures ok { IfOk result (λ found. both prove (id_of id.now) (few_ops_of ops.now) ≡ Some (command found)) }
+    ensures bad { result ≡ Err CommandError.Bad → both prove (id_of id.now) (few_ops_of ops.now) ≡ None }
+    ensures no_memory { result ≡ Err CommandError.NoMemory → IsSome (both prove (id_of id.now) (few_ops_of ops.now)) }
+{
+    let Some(id) = read_id(id) else {
+        return Err(CommandError::Bad);
+    };
+    match read_ops(alloc, ops) {
+        Ok(ops) => Ok(Command::Prove { id, ops }),
         Err(EventError::Bad) => Err(CommandError::Bad),
         Err(EventError::NoMemory) => Err(CommandError::NoMemory),
     }

@@ -2,7 +2,7 @@ ghost use Rattle.std.specs.Prelude.{◌≡◌};
 ghost use Rattle.std.specs.Option.{option_map};
 ghost use Rattle.script_model.specs.Lines.{set, delete, flat, trie, same, both, event_of_one, event_of_two, event_of_three, event_of_four};
 ghost use Rattle.script_model.specs.Spellings.{id_of, key_of, value_of};
-ghost use Rattle.script_io.specs.Meanings.{IsRead, event};
+ghost use Rattle.script_io.specs.Meanings.{IsRead, event, pair_of};
 
 use crate::event::{Event, EventError};
 use crate::hex_bytes::read_hex;
@@ -122,9 +122,17 @@ fn read_same(a: &[u8], b: &[u8]) -> Option<Event>
     })
 }
 
-/// The pair that two texts write. A value that is none is bad also where the key found no memory.
 fn read_set(alloc: Global, key: &[u8], value: &[u8]) -> Result<Event, EventError>
     ensures { IsRead event (both set (key_of key.now) (value_of value.now)) result }
+{
+    let (key, value) = read_pair(alloc, key, value)?;
+    Ok(Event::Set { key, value })
+}
+
+/// The key and the value that two texts write. A value that is none is bad also where the key found
+/// no memory.
+pub(crate) fn read_pair(alloc: Global, key: &[u8], value: &[u8]) -> Result<(Text, Text), EventError>
+    ensures { IsRead (λ pair. pair) (pair_of key.now value.now) result }
 {
     let key = match read_key(alloc, key) {
         Ok(key) => Some(key),
@@ -133,7 +141,7 @@ fn read_set(alloc: Global, key: &[u8], value: &[u8]) -> Result<Event, EventError
     };
     let value = read_value(alloc, value)?;
     match key {
-        Some(key) => Ok(Event::Set { key, value }),
+        Some(key) => Ok((key, value)),
         None => Err(EventError::NoMemory),
     }
 }

@@ -16,6 +16,8 @@ mod lines;
 mod mem_sink;
 mod mem_source;
 mod number;
+mod op_list;
+mod op_words;
 mod output;
 mod sink;
 mod source;
@@ -32,6 +34,7 @@ pub use line_error::LineError;
 pub use lines::Lines;
 pub use mem_sink::MemSink;
 pub use mem_source::MemSource;
+pub use op_list::{Op, OpList};
 pub use output::{put, put_hex, put_number};
 pub use sink::Sink;
 pub use source::Source;
@@ -41,5 +44,7 @@ pub use std_streams::{StdSink, StdSource};
 mod event_tests;
 #[cfg(test)]
 mod feed_tests;
+#[cfg(test)]
+mod op_tests;
 #[cfg(test)]
 mod tests;

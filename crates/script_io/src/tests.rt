@@ -103,6 +103,7 @@ fn expect_command(
         Ok(Command::Root) => assert_eq!(rt; want, b"root".as_slice(), "{words:?}"),
         Ok(Command::Apply) => assert_eq!(rt; want, b"apply".as_slice(), "{words:?}"),
         Ok(Command::Get { .. }) => assert_eq!(rt; want, b"get".as_slice(), "{words:?}"),
+        Ok(Command::Prove { .. }) => assert_eq!(rt; want, b"prove".as_slice(), "{words:?}"),
         Ok(Command::Replay) => assert_eq!(rt; want, b"replay".as_slice(), "{words:?}"),
         Err(error) => {
             assert!(rt; matches!(error, CommandError::Bad), "{words:?}");
@@ -117,7 +118,7 @@ const ID: &[u8; 64] = b"0123456789ABCDEF0123456789abcdef0123456789abcdef01234567
 #[test]
 fn commands(rt: HostRuntime) -> Result<(), Fail> {
     let alloc = rt.alloc();
-    let table: [(&[&[u8]], &[u8]); 16] = [
+    let table: [(&[&[u8]], &[u8]); 21] = [
         (&[b"root"], b"root"),
         (&[b"apply"], b"apply"),
         (&[b"replay"], b"replay"),
@@ -134,6 +135,11 @@ fn commands(rt: HostRuntime) -> Result<(), Fail> {
         (&[b"get", ID, b"6"], b""),
         (&[b"get", b"61", ID], b""),
         (&[b"get", ID, b"61", b""], b""),
+        (&[b"prove", ID, b"?61"], b"prove"),
+        (&[b"prove", ID, b"?61", b"+62=63", b"-64"], b"prove"),
+        (&[b"prove", ID], b""),
+        (&[b"prove", b"?61", ID], b""),
+        (&[b"proved", ID, b"?61"], b""),
     ];
     for (words, want) in table {
         expect_command(&rt, alloc, words, want)?;

@@ -1,6 +1,7 @@
-ghost use Rattle.std.specs.Prelude.{◌≡◌, ◌==◌, ◌<◌, ◌∷◌, [], length, position, IfSome, MatchOption};
-ghost use Rattle.std.specs.List.{slice_split};
+ghost use Rattle.std.specs.Prelude.{◌≡◌, ◌==◌, ◌<◌, ◌∷◌, [], length, position, true, false, IfSome, MatchOption};
+ghost use Rattle.std.specs.List.{slice_split, before_first, after_first, list_any};
 ghost use Rattle.script_model.specs.Lines.{is_space};
+ghost use Rattle.script_model.specs.Words.{is_equals};
 
 /// The index of the first such byte.
 pub(crate) fn index_of(bytes: &[u8], byte: u8) -> Option<usize>
@@ -17,6 +18,17 @@ pub(crate) fn cut_word(line: &[u8]) -> Option<(&[u8], &[u8])>
 {
     match index_of(line, b' ') {
         Some(index) => Some((&line[..index], &line[index + 1..])),
+        None => None,
+    }
+}
+
+/// Cuts a text at its first `=`.
+pub(crate) fn cut_pair(text: &[u8]) -> Option<(&[u8], &[u8])>
+    ensures { MatchOption result (list_any is_equals text.now ≡ false)
+        (λ cut. (list_any is_equals text.now ≡ true) × (cut.0.now ≡ before_first is_equals text.now) × (cut.1.now ≡ after_first is_equals text.now)) }
+{
+    match index_of(text, b'=') {
+        Some(index) => Some((&text[..index], &text[index + 1..])),
         None => None,
     }
 }

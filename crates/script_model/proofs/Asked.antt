@@ -3,7 +3,7 @@ use Rattle.std.proofs.Common.{◌≡◌, ℕ, suc, ◌*◌, ◌^◌, ◌<◌, �
 use Rattle.std.specs.Prelude.{codes}
 use Rattle.std.specs.Result.{result_ok}
 use Rattle.std.specs.Str.{bytes_eq}
-use Rattle.std.specs.List.{list_any, list_all, slice_split}
+use Rattle.std.specs.List.{AllByRecursion, list_any, list_all, slice_split, before_first, after_first}
 use Rattle.std.specs.Option.{option_map}
 use Rattle.std.proofs.lemmas.Bool.{leb-true, ltb-true, eqb-true}
 use Rattle.hex.specs.Hex.{decode_of, IsBytes}
@@ -13,8 +13,9 @@ use Rattle.byte_model.specs.Nibbles.{AreBytes}
 use Rattle.byte_model.specs.Node.{longest_value}
 use Rattle.trie_model.specs.State.{IsPair, longest_key}
 use Rattle.script_model.specs.Lines.{Event, nothing, block, block_end, set, delete, head, flat, trie, same, usage, stats, both, all_three, event_of, event_of_words, is_hash, is_carriage_return, is_space}
-use Rattle.script_model.specs.Words.{Command, root, apply, get, replay, command_of}
-use Rattle.script_model.specs.Bounds.{IsId, IsKey, IsAsked, IsCommanded}
+use Rattle.script_model.specs.Words as words
+use Rattle.script_model.specs.Words.{Op, Command, root, apply, get, prove, replay, op_of, ops_of, set_of, is_equals, few_ops_of, most_operations, get_of, command_of}
+use Rattle.script_model.specs.Bounds.{IsId, IsKey, IsAsked, IsOp, IsCommanded}
 use Rattle.script_model.specs.Spellings.{hex_bytes, at_most, key_of, value_of, id_of, number_of, is_decimal_digit, most_digits, no_bytes}
 use Rattle.std.specs.Str.Parse.{digits_value}
 use Rattle.byte_model.specs.Node.{digest_width}
@@ -69,6 +70,12 @@ value-within : (text value : List ℕ) → value_of text ≡ Some value → With
 unfolding value_of
 value-within text value e = within longest_value text value e
 
+pair-within : (one two key value : List ℕ) → key_of one ≡ Some key → value_of two ≡ Some value → IsPair (key, value)
+pair-within one two key value k v =
+    let key_is = key-within one key k in
+    let value_is = value-within two value v in
+    record { key = key_is.bytes; key_length = key_is.short; value = value_is.are_bytes; value_length = value_is.within }
+
 pub id-within : (text id : List ℕ) → id_of text ≡ Some id → IsId id
 unfolding id_of
 id-within text id e = by_length (eqb (length text) (2 * digest_width)) refl e
@@ -107,9 +114,9 @@ all_three-within : {A B C : Type 0} (make : A → B → C → Event) (a : Option
 all_three-within make None b c asked e h = absurd cc
 all_three-within make (Some x) b c asked e h = both-within IsAsked (make x) b c asked e (λ y z. h x y z refl)
 
-mapped-within : {A : Type 0} (make : A → Event) (a : Option A) (asked : Event) → option_map make a ≡ Some asked → ((x : A) → a ≡ Some x → IsAsked (make x)) → IsAsked asked
-mapped-within make None asked e h = absurd cc
-mapped-within make (Some x) asked e h = let same : make x ≡ asked = cc in subst IsAsked same (h x refl)
+mapped-within : {A B : Type 0} (P : B → Type 0) (make : A → B) (a : Option A) (asked : B) → option_map make a ≡ Some asked → ((x : A) → a ≡ Some x → P (make x)) → P asked
+mapped-within P make None asked e h = absurd cc
+mapped-within P make (Some x) asked e h = let same : make x ≡ asked = cc in subst P same (h x refl)
 
 one-within : (b c : Bool) (asked : Event) → cond b (Some block_end) (cond c (Some stats) None) ≡ Some asked → IsAsked asked
 unfolding IsAsked
@@ -119,17 +126,14 @@ one-within false false asked e = absurd cc
 
 two-within : (b c d : Bool) (text : List ℕ) (asked : Event) → cond b (option_map delete (key_of text)) (cond c (option_map head (id_of text)) (cond d (option_map usage (id_of text)) None)) ≡ Some asked → IsAsked asked
 unfolding IsAsked
-two-within true c d text asked e = mapped-within delete (key_of text) asked e (λ key k. key-within text key k)
-two-within false true d text asked e = mapped-within head (id_of text) asked e (λ id i. id-within text id i)
-two-within false false true text asked e = mapped-within usage (id_of text) asked e (λ id i. id-within text id i)
+two-within true c d text asked e = mapped-within IsAsked delete (key_of text) asked e (λ key k. key-within text key k)
+two-within false true d text asked e = mapped-within IsAsked head (id_of text) asked e (λ id i. id-within text id i)
+two-within false false true text asked e = mapped-within IsAsked usage (id_of text) asked e (λ id i. id-within text id i)
 two-within false false false text asked e = absurd cc
 
 three-within : (b c d f : Bool) (one two : List ℕ) (asked : Event) → cond b (both set (key_of one) (value_of two)) (cond c (both flat (id_of one) (key_of two)) (cond d (both trie (id_of one) (key_of two)) (cond f (both same (id_of one) (id_of two)) None))) ≡ Some asked → IsAsked asked
 unfolding IsAsked
-three-within true c d f one two asked e = both-within IsAsked set (key_of one) (value_of two) asked e (λ key value k v.
-    let key_is = key-within one key k in
-    let value_is = value-within two value v in
-    record { key = key_is.bytes; key_length = key_is.short; value = value_is.are_bytes; value_length = value_is.within })
+three-within true c d f one two asked e = both-within IsAsked set (key_of one) (value_of two) asked e (λ key value k v. pair-within one two key value k v)
 three-within false true d f one two asked e = both-within IsAsked flat (id_of one) (key_of two) asked e (λ id key i k. (id-within one id i, key-within two key k))
 three-within false false true f one two asked e = both-within IsAsked trie (id_of one) (key_of two) asked e (λ id key i k. (id-within one id i, key-within two key k))
 three-within false false false true one two asked e = both-within IsAsked same (id_of one) (id_of two) asked e (λ a b i j. (id-within one a i, id-within two b j))
@@ -169,6 +173,43 @@ pub IsPair-event_of : (line key value : List ℕ) → event_of line ≡ Some (se
 unfolding IsAsked
 IsPair-event_of line key value e = asked-within line (set key value) e
 
+-- ---- operations
+
+-- what is there where a test is passed
+passed : {A : Type 0} (b : Bool) (o : Option A) (found : A) → cond b o None ≡ Some found → (b ≡ true) × (o ≡ Some found)
+passed true o found e = (refl, e)
+passed false o found e = absurd cc
+
+setting-within : (text : List ℕ) (op : Op) → set_of text ≡ Some op → IsOp op
+unfolding IsOp
+setting-within text op e =
+    both-within IsOp words.set (key_of (before_first is_equals text)) (value_of (after_first is_equals text)) op (passed (list_any is_equals text) _ op e).1
+    (λ key value k v. pair-within (before_first is_equals text) (after_first is_equals text) key value k v)
+
+kind-within : (b c d : Bool) (text : List ℕ) (op : Op) → cond b (option_map words.read (key_of text)) (cond c (set_of text) (cond d (option_map words.delete (key_of text)) None)) ≡ Some op → IsOp op
+unfolding IsOp
+kind-within true c d text op e = mapped-within IsOp words.read (key_of text) op e (λ key k. key-within text key k)
+kind-within false true d text op e = setting-within text op e
+kind-within false false true text op e = mapped-within IsOp words.delete (key_of text) op e (λ key k. key-within text key k)
+kind-within false false false text op e = absurd cc
+
+op-within : (word : List ℕ) (op : Op) → op_of word ≡ Some op → IsOp op
+unfolding op_of
+op-within [] op e = absurd cc
+op-within (byte ∷ text) op e = kind-within (eqb byte 63) (eqb byte 43) (eqb byte 45) text op e
+
+-- what is told of operations by the words for them
+record AreOps (words : List (List ℕ)) (ops : List Op) : Type 0 where
+  within : AllByRecursion IsOp ops
+  count : length ops ≡ length words
+
+ops-within : (words : List (List ℕ)) (ops : List Op) → ops_of words ≡ Some ops → AreOps words ops
+unfolding ops_of
+ops-within [] ops e = let none : [] ≡ ops = cc in subst (AreOps []) none (record { within = tt; count = refl })
+ops-within (word ∷ words) ops e = both-within (AreOps (word ∷ words)) (λ op rest. op ∷ rest) (op_of word) (ops_of words) ops e (λ op rest o r.
+    let are = ops-within words rest r in
+    record { within = (op-within word op o, are.within); count = ap suc are.count })
+
 -- ---- command words
 
 single-within : (b c d : Bool) (asked : Command) → cond b (Some root) (cond c (Some apply) (cond d (Some replay) None)) ≡ Some asked → IsCommanded asked
@@ -178,14 +219,26 @@ single-within false true d asked e = let found : apply ≡ asked = cc in subst I
 single-within false false true asked e = let found : replay ≡ asked = cc in subst IsCommanded found tt
 single-within false false false asked e = absurd cc
 
-getting-within : (b : Bool) (one two : List ℕ) (asked : Command) → cond b (both get (id_of one) (key_of two)) None ≡ Some asked → IsCommanded asked
+getting-within : (id word : List ℕ) (words : List (List ℕ)) (asked : Command) → get_of id (word ∷ words) ≡ Some asked → IsCommanded asked
 unfolding IsCommanded
-getting-within true one two asked e = both-within IsCommanded get (id_of one) (key_of two) asked e (λ id key i k. (id-within one id i, key-within two key k))
-getting-within false one two asked e = absurd cc
+getting-within id word [] asked e = both-within IsCommanded get (id_of id) (key_of word) asked e (λ found key i k. (id-within id found i, key-within word key k))
+getting-within id word (next ∷ words) asked e = absurd cc
+
+proving-within : (id word : List ℕ) (words : List (List ℕ)) (asked : Command) → both prove (id_of id) (few_ops_of (word ∷ words)) ≡ Some asked → IsCommanded asked
+unfolding IsCommanded
+proving-within id word words asked e = both-within IsCommanded prove (id_of id) (few_ops_of (word ∷ words)) asked e (λ found ops i o.
+    let few = passed (leb (length (word ∷ words)) most_operations) (ops_of (word ∷ words)) ops o in
+    let are = ops-within (word ∷ words) ops few.1 in
+    let most : length (word ∷ words) ≤ most_operations = leb-true (length (word ∷ words)) most_operations few.0 in
+    (id-within id found i, are.within, omega (arith, are.count), omega (arith, are.count, most)))
+
+more-within : (b c : Bool) (id word : List ℕ) (words : List (List ℕ)) (asked : Command) → cond b (get_of id (word ∷ words)) (cond c (both prove (id_of id) (few_ops_of (word ∷ words))) None) ≡ Some asked → IsCommanded asked
+more-within true c id word words asked e = getting-within id word words asked e
+more-within false true id word words asked e = proving-within id word words asked e
+more-within false false id word words asked e = absurd cc
 
 pub command-within : (words : List (List ℕ)) (asked : Command) → command_of words ≡ Some asked → IsCommanded asked
 command-within [] asked e = absurd cc
 command-within (word ∷ []) asked e = single-within (bytes_eq word (codes "root")) (bytes_eq word (codes "apply")) (bytes_eq word (codes "replay")) asked e
-command-within (word ∷ a ∷ []) asked e = absurd cc
-command-within (word ∷ a ∷ b ∷ []) asked e = getting-within (bytes_eq word (codes "get")) a b asked e
-command-within (word ∷ a ∷ b ∷ c ∷ words) asked e = absurd cc
+command-within (word ∷ id ∷ []) asked e = absurd cc
+command-within (word ∷ id ∷ next ∷ words) asked e = more-within (bytes_eq word (codes "get")) (bytes_eq word (codes "prove")) id next words asked e

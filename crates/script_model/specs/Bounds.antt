@@ -1,10 +1,12 @@
 -- What the things keep to that lines ask for.
 use Rattle.std.specs.Prelude.{◌≡◌, ℕ, ◌^◌, ◌<◌, ◌≤◌, List, length, ⊤}
+use Rattle.std.specs.List.{AllByRecursion}
 use Rattle.byte_model.specs.Nibbles.{AreBytes}
 use Rattle.byte_model.specs.Node.{digest_width}
 use Rattle.trie_model.specs.State.{IsPair, longest_key}
 use Rattle.script_model.specs.Lines.{Event, nothing, block, set, delete, block_end, head, flat, trie, same, usage, stats}
-use Rattle.script_model.specs.Words.{Command, root, apply, get, replay}
+use Rattle.script_model.specs.Words as words
+use Rattle.script_model.specs.Words.{Op, Command, root, apply, get, prove, replay, most_operations}
 
 pub record IsId (id : List ℕ) : Type 0 where
   pub bytes : AreBytes id
@@ -28,8 +30,14 @@ IsAsked (usage id) = IsId id
 IsAsked stats = ⊤
 
 -- and what command words ask for
+unfoldable pub IsOp : Op → Type 0
+IsOp (words.read key) = IsKey key
+IsOp (words.set key value) = IsPair (key, value)
+IsOp (words.delete key) = IsKey key
+
 unfoldable pub IsCommanded : Command → Type 0
 IsCommanded root = ⊤
 IsCommanded apply = ⊤
 IsCommanded (get id key) = IsId id × IsKey key
+IsCommanded (prove id ops) = IsId id × AllByRecursion IsOp ops × (1 ≤ length ops) × (length ops ≤ most_operations)
 IsCommanded replay = ⊤
