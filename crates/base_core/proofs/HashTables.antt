@@ -10,7 +10,7 @@ use Rattle.std.specs.Cmp.Lexicographic.{pointwise, bytes_decides, texts_ties, na
 use Rattle.std.specs.FinMap.{FinMap, get, find, from_entries, insert, remove, len, contains_key, empty, same_map, get-from_entries, get-insert, get-remove, get-empty, len-empty, len-insert}
 use Rattle.base_core.proofs.ByteMaps.{order, is_same}
 
-turned : (q d : List ℕ) → is_same q d ≡ pointwise nat_eq d q
+pub turned : (q d : List ℕ) → is_same q d ≡ pointwise nat_eq d q
 turned q d = (eq_by_cmp_equiv nat_list_cmp_total).symm q d ∙ sym (texts_ties d q)
 
 module _ {K V : Type 0} (key : K → List ℕ) where

@@ -4,7 +4,7 @@ use Rattle.std.specs.FinMap.{get}
 use Rattle.sha2.specs.Sha256.{sha256}
 use Rattle.trie_model.specs.State.{State, IsState}
 use Rattle.trie_model.specs.Root as trie
-use Rattle.trie_model.specs.Root.{Table, NoClash, texts_of}
+use Rattle.trie_model.specs.Root.{NoClash, texts_of}
 use Rattle.trie_model.proofs.Members.{IsIn}
 use Rattle.batch_model.specs.Changes.{Changes}
 use Rattle.change_model.specs.Ledger.{made_texts}

@@ -117,3 +117,28 @@ reading-all store old now table root all answers h = (
   (ap (λ (w : Visits). w.refusal) h.told, sym (ap (λ (w : Visits). w.answers) h.told ∙ append-nil answers)),
   subst (λ (ds : List (List ℕ)). Leaves store old now ds done) (sym (ap (λ (w : Visits). w.digests) h.told ∙ append-nil h.digests)) h.left,
 )
+
+-- ---- where no answer is kept
+
+pub record IsPassing {S : Type 0} (store : Store S) (old now : S) (table : Table) (root : List ℕ) (all rest : List (List ℕ)) : Type 0 where
+  pub answers : List (Option (List ℕ))
+  pub reading : IsReading store old now table root all rest answers
+
+pub passing-start : {S : Type 0} (store : Store S) (old : S) → store.alike old old → (table : Table) (root : List ℕ) (all : List (List ℕ)) → IsPassing store old old table root all all
+passing-start store old same table root all = record { answers = []; reading = reading-start store old same table root all }
+
+module _ {S : Type 0} (store : Store S) (onward : Onward store) (texts : SameTexts store) (old mid new : S) (root key : List ℕ) (all now rest : List (List ℕ)) (here : now ≡ key ∷ rest) (h : IsPassing store old mid (store.texts old) root all now) where
+  abbrev visited : looking.Visits
+  visited = lookup_visits (store.texts mid) root key
+
+  pub passing-more : visited.refusal ≡ None → Leaves store mid new visited.digests done → IsPassing store old new (store.texts old) root all rest
+  passing-more a l = record {
+    answers = h.answers ++ value_among visited.values ∷ [];
+    reading = reading-more store onward texts old mid new root key all now rest h.answers here h.reading (value_among visited.values) (a, refl) l;
+  }
+
+  pub passing-refused : {X : Type 0} (view : X → List (Option (List ℕ))) (error : ProveError) → AnswersRead visited (Err error) → Leaves store mid new visited.digests (by_prove_error error) → AnswersReads view (reads_visits (store.texts old) root all) (Err error) × Leaves store old new (reads_visits (store.texts old) root all).digests (by_prove_error error)
+  passing-refused view error a l = reading-refused store onward texts old mid new root key all now rest h.answers here h.reading view error a l
+
+pub passing-all : {S : Type 0} (store : Store S) (old now : S) (table : Table) (root : List ℕ) (all : List (List ℕ)) → IsPassing store old now table root all [] → ((reads_visits table root all).refusal ≡ None) × Leaves store old now (reads_visits table root all).digests done
+passing-all store old now table root all h = let r = reading-all store old now table root all h.answers h.reading in (r.0.0, r.1)

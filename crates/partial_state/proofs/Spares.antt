@@ -1,13 +1,12 @@
 -- The first text that is not marked is the first that nothing visited.
 use Rattle.std.proofs.Common.{◌≡◌, ℕ, Bool, true, false, not, ◌||◌, nat_eq, nat_cmp, List, [], ◌∷◌, position, refl, sym, ap, ◌∙◌}
 use Rattle.std.specs.List.{list_any}
-use Rattle.std.specs.Cmp.{eq_by_cmp_equiv}
-use Rattle.std.specs.Cmp.Lexicographic.{slice_cmp, nat_list_cmp_total, pointwise, texts_ties}
+use Rattle.std.specs.Cmp.Lexicographic.{slice_cmp, nat_list_cmp_total, pointwise}
 use Rattle.std.specs.FinSet.{contains, insert, empty, contains-insert, contains-empty}
 use mathlib.Core.Path.{fun_ext}
 use Rattle.sha2.specs.Sha256.{sha256}
 use Rattle.recording_model.specs.Replays.{is_used, first_spare}
-use Rattle.base_core.proofs.ByteMaps.{is_same}
+use Rattle.base_core.proofs.HashTables.{turned}
 use Rattle.text_store.specs.Store.{Digests}
 use Rattle.text_store.specs.Leaves.{with_all}
 use Rattle.text_store.specs.PartialStates.{PartialState, first_unused}
@@ -25,9 +24,6 @@ or_false false = refl
 -- whether a digest is among some
 abbrev pub among : List (List ℕ) → List ℕ → Bool
 among digests q = list_any (λ digest. pointwise nat_eq digest q) digests
-
-turned : (q d : List ℕ) → is_same q d ≡ pointwise nat_eq d q
-turned q d = (eq_by_cmp_equiv nat_list_cmp_total).symm q d ∙ sym (texts_ties d q)
 
 -- the digests kept are those of before, and those that were added
 contains-with_all : (digests : List (List ℕ)) (kept : Digests) (q : List ℕ) → contains (with_all kept digests) q ≡ (among digests q || contains kept q)

@@ -68,6 +68,11 @@ AnswersRead visits (Err (Clash named one other)) = ⊥
 AnswersRead visits (Err Fault) = ⊤
 AnswersRead visits (Err NoMemory) = ⊤
 
+-- one read whose answer nobody wants
+abbrev pub PassesRead : {X : Type 0} → looking.Visits → Result X ProveError → Type 0
+PassesRead visits (Ok passed) = visits.refusal ≡ None
+PassesRead visits (Err error) = AnswersRead visits (Err error)
+
 -- why reads and a batch were not carried out: the test that failed; texts clash behind all visits
 abbrev pub IsStopped : Visits → ProveError → Type 0
 IsStopped visits (Missing named) = visits.refusal ≡ Some (replay.missing named.0)

@@ -53,7 +53,7 @@ pub(crate) fn carry_all<T: Texts>(
 }
 
 /// The changes: the root behind them.
-fn carry_out<T: Texts>(
+pub(crate) fn carry_out<T: Texts>(
     alloc: Global,
     store: &mut T,
     root: &Digest,

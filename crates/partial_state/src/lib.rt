@@ -8,6 +8,7 @@ mod fields;
 mod laws;
 mod noting;
 mod ops;
+mod passing;
 mod proof;
 mod proof_error;
 mod prove_error;
@@ -27,6 +28,8 @@ pub use proving::prove;
 pub use recorder::Recorder;
 pub use replaying::{ReplayError, Replayed, replay};
 
+#[cfg(test)]
+mod prove_tests;
 #[cfg(test)]
 mod replay_tests;
 #[cfg(test)]

@@ -8,7 +8,7 @@ use text_store::{TextSet, write_partial};
 // ---- the keys 61 and 62, each with a value that is its own byte
 
 /// The key 62 is deleted.
-const DELETION: [u8; 14] = [0, 0, 0, 0, 1, 0, 0, 0, 1, 0, 0, 0, 0x62, 0];
+pub(crate) const DELETION: [u8; 14] = [0, 0, 0, 0, 1, 0, 0, 0, 1, 0, 0, 0, 0x62, 0];
 
 /// A leaf that begins with its spelled path, with the value of one byte and its usage.
 fn leaf(alloc: Global, head: &[u8], value: &[u8], usage: u64) -> Result<Text, AllocError> {
@@ -28,7 +28,7 @@ fn leaf_b(alloc: Global) -> Result<Text, AllocError> {
     leaf(alloc, &[0, 1, 0, 0, 0, 0x20], b"b", 103)
 }
 
-fn branch(alloc: Global) -> Result<Text, AllocError> {
+pub(crate) fn branch(alloc: Global) -> Result<Text, AllocError> {
     let mut writer = Writer::new(alloc);
     writer.put_raw(&[1, 6, 0])?;
     writer.put_raw(&digest(leaf_a(alloc)?.as_slice()).0)?;
@@ -46,7 +46,7 @@ fn extension(alloc: Global) -> Result<Text, AllocError> {
 }
 
 /// All four but the one with this number.
-fn nodes_but(alloc: Global, left_out: u64) -> Result<TextSet, AllocError> {
+pub(crate) fn nodes_but(alloc: Global, left_out: u64) -> Result<TextSet, AllocError> {
     let mut set = TextSet::new(alloc);
     if left_out != 0 {
         set.put(leaf_a(alloc)?.as_slice())?;
@@ -63,7 +63,7 @@ fn nodes_but(alloc: Global, left_out: u64) -> Result<TextSet, AllocError> {
     Ok(set)
 }
 
-fn file(alloc: Global, head: &[u8], set: &TextSet) -> Result<Text, AllocError> {
+pub(crate) fn file(alloc: Global, head: &[u8], set: &TextSet) -> Result<Text, AllocError> {
     let mut writer = Writer::new(alloc);
     writer.put_raw(&digest(extension(alloc)?.as_slice()).0)?;
     writer.put_raw(head)?;
@@ -118,6 +118,7 @@ fn expect_missing(
     let set = nodes_but(alloc, left_out)?;
     match replay_of(alloc, &DELETION, &set) {
         Err(ReplayError::Missing { digest: named }) => assert_eq!(rt; named, digest(text)),
+        Err(ReplayError::NoMemory) => return Err(AllocError),
         _ => assert!(rt; false, "{left_out} is not missed"),
     }
     Ok(())

@@ -4,10 +4,11 @@ use Rattle.std.specs.Prelude.{Contains}
 use Rattle.std.specs.List.{AllByRecursion}
 use Rattle.std.specs.Cmp.Lexicographic.{pointwise, bytes_decides}
 use Rattle.std.specs.FinMap.{get}
+use Rattle.std.proofs.lemmas.Option.{same_Some}
 use Rattle.sha2.specs.Sha256.{sha256}
 use Rattle.byte_model.specs.Nibbles.{AreBytes}
 use Rattle.trie_model.specs.State.{State, IsState}
-use Rattle.trie_model.specs.Root.{Table, NoClash, root, text_at, texts_of}
+use Rattle.trie_model.specs.Root.{Table, Holds, NoClash, root, text_at, texts_of}
 use Rattle.trie_model.proofs.Members.{IsIn, all_at, all_of, contains_of_in, in_of_contains, in-append_cases}
 use Rattle.visit_model.specs.Visits as looking
 use Rattle.visit_model.specs.Visits.{lookup_visits}
@@ -19,9 +20,11 @@ use Rattle.change_model.specs.Tables.{HoldsPlaces}
 use Rattle.change_model.proofs.Visited.{batch_passes}
 use Rattle.count_model.proofs.Clashing.{any_in}
 use Rattle.count_model.proofs.Held.{NoClash-part}
+use Rattle.count_model.proofs.Loaded.{holds-touched}
 use Rattle.recording_model.specs.Agreeing.{Agrees}
 use Rattle.recording_model.specs.Recorded.{touched_texts, recorded_texts}
 use Rattle.recording_model.specs.Replays.{value_among, and_reads, reads_visits, replay_visits, is_used, first_spare}
+use Rattle.recording_model.proofs.StateReads.{reads_visits-refusal}
 use Rattle.recording_model.proofs.Behind.{both-pass}
 use Rattle.recording_model.proofs.Filled.{full, full-has, full-holds}
 use Rattle.recording_model.proofs.VisitedTexts.{Has}
@@ -93,3 +96,15 @@ recorded-among state reads changes apart = NoClash-part (texts_of state ++ recor
 
     part : (t : List ℕ) → Contains (texts_of state ++ recorded_texts state reads changes) t → Contains (texts_of state) t
     part t h = contains_of_in (texts_of state) t (go t (in-append_cases (texts_of state) (recorded_texts state reads changes) t (in_of_contains (texts_of state ++ recorded_texts state reads changes) t h)))
+
+-- ---- over a table that holds a state
+
+-- each text of the state is found under its digest, so there is no other
+pub holds-agrees : (table : Table) (state : State) → Holds table state → Agrees table state
+holds-agrees table state holds t text i e = same_Some t text (sym (all_at (λ u. get table (sha256 u) ≡ Some u) (texts_of state) t holds.found (in_of_contains (texts_of state) t i)) ∙ e)
+
+pub holds-passes : (table : Table) (state : State) (reads : List (List ℕ)) (changes : Changes) → Holds table state → IsState state → AllByRecursion AreBytes reads → AreChanges changes → (replay_visits table (root state) reads changes).refusal ≡ None
+holds-passes table state reads changes holds is bytes are =
+    both-pass (reads_visits table (root state) reads) (batch_visits table (root state) changes)
+    (reads_visits-refusal table state reads holds is bytes)
+    (batch_passes state changes is are table (holds-touched table state holds [] changes) (λ _. true)).passed

@@ -2,20 +2,19 @@
 use Rattle.std.proofs.Common.{◌≡◌, ℕ, ◌≤◌, nat_eq, Bool, true, List, [], ◌++◌, map, None, Some, ◌⊎◌, inl, inr, refl, sym, ap, ◌∙◌, subst}
 use Rattle.std.specs.List.{AllByRecursion, count_by, filter_map}
 use Rattle.std.specs.Cmp.Lexicographic.{pointwise, bytes_decides}
-use Rattle.std.specs.FinMap.{get, entries}
+use Rattle.std.specs.FinMap.{get}
 use Rattle.sha2.specs.Sha256.{sha256}
-use Rattle.byte_model.specs.Nibbles.{AreBytes, nibbles}
-use Rattle.trie_model.specs.State.{State, Row, IsState, rows_of}
+use Rattle.byte_model.specs.Nibbles.{AreBytes}
+use Rattle.trie_model.specs.State.{State, IsState, rows_of}
 use Rattle.trie_model.specs.Root.{Table, NoClash, root, text_at, texts_of, places_of}
-use Rattle.trie_model.proofs.Members.{IsIn, all_at, all_of, contains_of_in, in-append_left, in-append_right, in-append_cases, in-map, in_map_from}
-use Rattle.trie_model.proofs.Worked.{Pair, rows_of_pairs}
+use Rattle.trie_model.proofs.Members.{IsIn, all_at, contains_of_in, in-append_left, in-append_right, in-append_cases, in_map_from}
 use Rattle.batch_model.specs.Changes.{Changes, AreChanges}
-use Rattle.batch_model.proofs.Laying.{get_of_all}
 use Rattle.change_model.specs.Visits as changing
 use Rattle.change_model.specs.Visits.{batch_visits}
 use Rattle.change_model.specs.Places.{touched_places}
 use Rattle.change_model.proofs.Filtered.{in_filter_map_from}
 use Rattle.change_model.proofs.Touched.{in_of_any}
+use Rattle.change_model.proofs.Unchanged.{value_in}
 use Rattle.change_model.proofs.Visited.{batch_passes}
 use Rattle.count_model.proofs.Live.{count-some, count-member}
 use Rattle.count_model.proofs.Loaded.{holds-touched}
@@ -35,12 +34,6 @@ use Rattle.recording_model.proofs.Sound.{both, visited, touched-held, place_text
 use Rattle.recording_model.proofs.TouchedTexts.{Touches, reads-touch, batch-text, text-visited}
 
 -- ---- touched texts are texts of the state
-
-value_in : (state : State) (key value : List ℕ) → get state key ≡ Some value → IsIn (map (λ row. row.1) (rows_of state)) value
-unfolding rows_of
-value_in state key value is =
-    get_of_all (λ (pair : Pair). IsIn (map (λ row. row.1) (rows_of state)) pair.1) state
-    (all_of (λ (pair : Pair). IsIn (map (λ row. row.1) (rows_of state)) pair.1) (entries state) (λ pair i. in-map (λ (row : Row). row.1) (rows_of_pairs (entries state)) (nibbles pair.0, pair.1) (in-map (λ (pair : Pair). (nibbles pair.0, pair.1)) (entries state) pair i))) key value is
 
 pub touched-in : (state : State) (reads : List (List ℕ)) (changes : Changes) (text : List ℕ) → IsIn (touched_texts state reads changes) text → IsIn (texts_of state) text
 unfolding touched_texts texts_of

@@ -12,3 +12,4 @@ pub mod Exact
 pub mod Used
 pub mod Back
 pub mod Complete
+pub mod Costs

@@ -5,6 +5,7 @@ use Rattle.std.specs.Cmp.Lexicographic.{slice_cmp, nat_list_cmp_total}
 use Rattle.std.specs.FinMap.{get, get-insert, get-empty, contains_key-keys, same_map}
 use Rattle.std.proofs.lemmas.Map.Lookups.{exact_bytes}
 use Rattle.trie_model.proofs.Members.{IsIn}
+use Rattle.change_model.proofs.Laid.{same_tests}
 use Rattle.count_model.proofs.Clashing.{any_from, any_in}
 use Rattle.partial_model.specs.Texts.{set_of, texts_in}
 use Rattle.recording_model.proofs.Filled.{is_same, same_itself, same_from}
@@ -25,11 +26,6 @@ get-set_of : (texts : List (List ℕ)) (q : List ℕ) → get (set_of texts) q �
 get-set_of [] q = get-empty (slice_cmp nat_cmp) q
 get-set_of (t ∷ texts) q = get-insert nat_list_cmp_total (set_of texts) t tt q ∙ ap (cond (is_same q t) (Some tt)) (get-set_of texts q) ∙ either (is_same q t) (among texts q)
 
-both_ways : (a b : Bool) → (a ≡ true → b ≡ true) → (b ≡ true → a ≡ true) → a ≡ b
-both_ways true b h k = sym (h refl)
-both_ways false true h k = k refl
-both_ways false false h k = refl
-
 among-more : (xs ys : List (List ℕ)) → ((t : List ℕ) → IsIn xs t → IsIn ys t) → (q : List ℕ) → among xs q ≡ true → among ys q ≡ true
 among-more xs ys all q e =
     let one = any_from (is_same q) xs e in
@@ -37,7 +33,7 @@ among-more xs ys all q e =
 
 pub same-sets : (xs ys : List (List ℕ)) → ((t : List ℕ) → IsIn xs t → IsIn ys t) → ((t : List ℕ) → IsIn ys t → IsIn xs t) → set_of xs ≡ set_of ys
 same-sets xs ys there back = same_map nat_list_cmp_total exact_bytes (set_of xs) (set_of ys) (λ q.
-    get-set_of xs q ∙ ap there_if (both_ways (among xs q) (among ys q) (among-more xs ys there q) (among-more ys xs back q)) ∙ sym (get-set_of ys q))
+    get-set_of xs q ∙ ap there_if (same_tests (among xs q) (among ys q) (among-more xs ys there q) (among-more ys xs back q)) ∙ sym (get-set_of ys q))
 
 -- ---- the texts of a set
 
