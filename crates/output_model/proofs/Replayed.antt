@@ -1,17 +1,16 @@
 -- What a recording is told of a state by its output, and that other commands have one.
-use Rattle.std.proofs.Common.{◌≡◌, ◌≢◌, ℕ, List, map, Option, None, Some, inl, inr, refl, sym, ap, ap₂, subst, ◌∙◌}
-use Rattle.std.specs.Prelude.{◌⊎◌}
+use Rattle.std.proofs.Common.{◌≡◌, ◌≢◌, ℕ, List, map, Option, None, Some, inl, inr, refl, sym, ap, ap₂, ◌∙◌}
 use Rattle.std.specs.FinMap.{get}
 use Rattle.trie_model.specs.State.{State}
 use Rattle.trie_model.specs.Root as trie
 use Rattle.batch_model.specs.Changes.{after}
 use Rattle.partial_model.specs.Recording.{Recording}
 use Rattle.recording_model.specs.Recorded.{recorded_texts}
-use Rattle.recording_model.specs.Replays.{Visits, Refusal, missing, bad, usage, first_spare}
-use Rattle.script_model.specs.Words.{Command, root, apply, get as get_words, replay, command_of}
+use Rattle.recording_model.specs.Replays.{Refusal, missing, bad, usage, first_spare}
+use Rattle.script_model.specs.Words.{Command, root, apply, get as get_words, prove, replay, command_of}
 use Rattle.output_model.specs.Ends.{Output, RunLimits, done}
 use Rattle.output_model.specs.Output.{IsOutputOf, command_outcome, outcome_of}
-use Rattle.output_model.specs.Replay.{IsByRefusal, IsBySpare, IsCarriedOut, IsClashed, IsOfState, IsReplay, replayed, test_failed, visits_in}
+use Rattle.output_model.specs.Replay.{IsByRefusal, IsBySpare, IsCarriedOut, IsOfState, IsReplay, replayed, test_failed, visits_in}
 
 pub one-output : (limits : RunLimits) (words : List (List ℕ)) (input : List ℕ) (one other : Output) → command_of words ≢ Some replay → IsOutputOf limits words input one → IsOutputOf limits words input other → one ≡ other
 unfolding outcome_of
@@ -22,6 +21,7 @@ one-output limits words input one other = go (command_of words)
     go (Some root) n a b = a ∙ sym b
     go (Some apply) n a b = a ∙ sym b
     go (Some (get_words id key)) n a b = a ∙ sym b
+    go (Some (prove id ops)) n a b = a ∙ sym b
     go (Some replay) n a b = absurd (n refl)
 
 -- a run that is done was not refused

@@ -103,11 +103,11 @@ record Tells (limits : RunLimits) (forks : ForkState) (header : Header) (changes
   forks_stay : history.forks ≡ forks
   told : HasTold limits forks header changes events history.opened
 
-later-assoc : {A : Type 0} (a b c : Option A) → later (later a b) c ≡ later a (later b c)
+pub later-assoc : {A : Type 0} (a b c : Option A) → later (later a b) c ≡ later a (later b c)
 later-assoc None b c = refl
 later-assoc (Some a) b c = refl
 
-later-none : {A : Type 0} (a : Option A) → later a None ≡ a
+pub later-none : {A : Type 0} (a : Option A) → later a None ≡ a
 later-none None = refl
 later-none (Some a) = refl
 
@@ -115,7 +115,7 @@ later-test : {A : Type 0} (b : Bool) (a : A) (c : Option A) → cond b (Some a) 
 later-test true a c = refl
 later-test false a c = refl
 
-get-told : (changes : Changes) (other : List ℕ) (value : Option (List ℕ)) (key : List ℕ) → get (insert changes other value) key ≡ later (cond (bytes_eq key other) (Some value) None) (get changes key)
+pub get-told : (changes : Changes) (other : List ℕ) (value : Option (List ℕ)) (key : List ℕ) → get (insert changes other value) key ≡ later (cond (bytes_eq key other) (Some value) None) (get changes key)
 get-told changes other value key =
     get-insert nat_list_cmp_total changes other value key ∙ ap (λ b. cond b (Some value) (get changes key)) (is_eq-slice_cmp key other) ∙ later-test (bytes_eq key other) value (get changes key)
 

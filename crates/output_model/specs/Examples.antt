@@ -15,6 +15,10 @@ two_id = replicate 64 50
 abbrev pub few : RunLimits
 few = record { pairs = 4; blocks = 4; changes = 4 }
 
+-- no key may be changed
+abbrev pub unchanging : RunLimits
+unchanging = record { pairs = 4; blocks = 4; changes = 0 }
+
 -- a block over the start
 abbrev pub begins_one : List ℕ
 begins_one = line_of (codes "block " ++ one_id ++ codes " " ++ start_id ++ codes " 7")

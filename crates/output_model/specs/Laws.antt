@@ -5,6 +5,7 @@ use Rattle.std.specs.Str.{bytes_eq}
 use Rattle.std.specs.FinMap.{get, len}
 use Rattle.script_model.specs.Lines as line
 use Rattle.script_model.specs.Lines.{Event}
+use Rattle.script_model.specs.Words.{Op, read, set, delete}
 use Rattle.fork_model.specs.Trees.{Header}
 use Rattle.fork_model.specs.States.{ForkState}
 use Rattle.output_model.specs.Ends.{RunLimits}
@@ -85,3 +86,16 @@ last_change key (asked ∷ events) = later (last_change key events) (change_of k
 pub record IsTold (limits : RunLimits) (forks : ForkState) (header : Header) (events : List Event) (history : History) : Type 0 where
   pub forks_stay : history.forks ≡ forks
   pub opened : IsSomeAnd history.opened (λ opened. (opened.header ≡ header) × ((key : List ℕ) → get opened.changes key ≡ last_change key events) × (len opened.changes ≤ limits.changes))
+
+-- ---- what operations change
+
+-- what an operation makes of a key, if it changes that key
+abbrev pub made_of : (key : List ℕ) → Op → Option (Option (List ℕ))
+made_of key (read other) = None
+made_of key (set other value) = if bytes_eq key other then Some (Some value) else None
+made_of key (delete other) = if bytes_eq key other then Some None else None
+
+-- what the last of some operations that change a key makes of it
+unfoldable pub last_made : (key : List ℕ) → List Op → Option (Option (List ℕ))
+last_made key [] = None
+last_made key (op ∷ ops) = later (last_made key ops) (made_of key op)

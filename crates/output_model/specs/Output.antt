@@ -1,6 +1,6 @@
 -- What a run may write and how it then ends, how many texts it loads, and which blocks are live in the end: one function of its limits, the command words and the bytes of the input. There is one output, but for `replay`, of which two things are free where no state stands behind a recording.
-use Rattle.std.specs.Prelude.{◌≡◌, ℕ, List, Option, None, Some}
-use Rattle.script_model.specs.Words.{Command, root, apply, get, replay, command_of}
+use Rattle.std.specs.Prelude.{◌≡◌, ℕ, List, Option, None, Some, if◌then◌else◌}
+use Rattle.script_model.specs.Words.{Op, Command, root, apply, get, prove, replay, command_of}
 use Rattle.fork_model.specs.States.{ForkState, first_fork}
 use Rattle.output_model.specs.Ends.{Output, RunLimits, bad_command}
 use Rattle.output_model.specs.Scripts.{Outcome, script_outcome}
@@ -8,6 +8,7 @@ use Rattle.output_model.specs.Root.{root_output}
 use Rattle.output_model.specs.Histories.{History}
 use Rattle.output_model.specs.Apply.{apply_script}
 use Rattle.output_model.specs.Get.{get_script}
+use Rattle.output_model.specs.Prove.{prove_script, changes_in, changes_too_many, full_changes, reads_in}
 use Rattle.output_model.specs.Replay.{IsReplayOutput}
 
 -- an output without a load, that leaves no block but the first head
@@ -32,11 +33,18 @@ one_outcome outcome = record { IsOutput = λ output. output ≡ outcome.output; 
 abbrev pub replay_outcome : List ℕ → RunOutcome
 replay_outcome input = record { IsOutput = IsReplayOutput input; loaded = 0; left = first_fork }
 
+-- Changes of too many keys are refused before anything is read.
+abbrev pub prove_outcome : RunLimits → (id : List ℕ) (ops : List Op) → (input : List ℕ) → Outcome ForkState
+prove_outcome limits id ops input =
+    if changes_too_many limits ops then without_blocks full_changes
+    else live_behind (script_outcome (prove_script limits id (reads_in ops) (changes_in ops)) input)
+
 abbrev pub command_outcome : RunLimits → Option Command → List ℕ → RunOutcome
 command_outcome limits None input = one_outcome (without_blocks bad_command)
 command_outcome limits (Some root) input = one_outcome (without_blocks (root_output limits input))
 command_outcome limits (Some apply) input = one_outcome (live_behind (script_outcome (apply_script limits) input))
 command_outcome limits (Some (get id key)) input = one_outcome (live_behind (script_outcome (get_script limits id key) input))
+command_outcome limits (Some (prove id ops)) input = one_outcome (prove_outcome limits id ops input)
 command_outcome limits (Some replay) input = replay_outcome input
 
 unfoldable pub outcome_of : RunLimits → List (List ℕ) → List ℕ → RunOutcome

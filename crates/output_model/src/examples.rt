@@ -2,9 +2,10 @@
 
 ghost use Rattle.std.specs.Prelude.{◌≡◌, ℕ, List, [], ◌∷◌, ◌++◌, codes};
 ghost use Rattle.script_model.specs.Lines.{line_feed};
-ghost use Rattle.output_model.specs.Ends.{RunLimits, bad_command, syntax_at, refused_digest, line_of, done, syntax, refused};
+ghost use Rattle.output_model.specs.Ends.{RunLimits, bad_command, syntax_at, refused_digest, line_of, not_live, done, syntax, refused};
+ghost use Rattle.output_model.specs.Prove.{full_changes};
 ghost use Rattle.output_model.specs.Output.{IsOutputOf, outcome_of};
-ghost use Rattle.output_model.specs.Examples.{few, one_id, two_id, begins_one, ends_one, one_accepted, some_root, one_read};
+ghost use Rattle.output_model.specs.Examples.{few, unchanging, one_id, two_id, begins_one, ends_one, one_accepted, some_root, one_read};
 ghost use Rattle.fork_model.specs.Examples.{id_of};
 ghost use Rattle.fork_model.specs.States.{after_head};
 ghost use Rattle.count_model.specs.Examples.{one_line, two_forks, set_two, set_alike};
@@ -101,6 +102,15 @@ pub fn a_key_behind_a_block()
     ensures not_live { IsOutputOf few (codes "get" ∷ two_id ∷ codes "61" ∷ []) (begins_one ++ ends_one)
         (record { bytes = line_of (codes "refused not-live"); ending = refused }) }
     ensures inside { IsOutputOf few (codes "get" ∷ one_id ∷ codes "61" ∷ []) (begins_one ++ codes "stats") (syntax_at 2) }
+{}
+
+/// `prove` wants operations. It is refused at a block that is not live, and, whatever the input is,
+/// where more keys are changed than may be.
+pub fn operations_at_a_block()
+    ensures none { (limits : RunLimits) (input : List ℕ) → IsOutputOf limits (codes "prove" ∷ one_id ∷ []) input bad_command }
+    ensures no_operation { (limits : RunLimits) (input : List ℕ) → IsOutputOf limits (codes "prove" ∷ one_id ∷ codes "61" ∷ []) input bad_command }
+    ensures not_live { IsOutputOf few (codes "prove" ∷ two_id ∷ codes "?61" ∷ []) (begins_one ++ ends_one) not_live }
+    ensures full { (input : List ℕ) → IsOutputOf unchanging (codes "prove" ∷ one_id ∷ codes "-61" ∷ []) input full_changes }
 {}
 
 /// Without a byte there is no root in front, and bytes that end within a count are refused where it

@@ -1,12 +1,12 @@
 //! Laws over the definitions, in other words than theirs. A law is proved where its function is: there
 //! is nothing to run.
 
-ghost use Rattle.std.specs.Prelude.{◌≡◌, ◌≢◌, ◌↔◌, ℕ, ◌+◌, Bool, true, false, List, [], ◌∷◌, length, map, codes, None, Some, IfSome};
-ghost use Rattle.std.specs.FinMap.{get};
+ghost use Rattle.std.specs.Prelude.{◌≡◌, ◌≢◌, ◌↔◌, ℕ, ◌+◌, ◌≤◌, Bool, true, false, List, [], ◌∷◌, ◌++◌, length, map, codes, None, Some, IfSome};
+ghost use Rattle.std.specs.FinMap.{get, len};
 ghost use Rattle.std.specs.List.{list_all};
 ghost use Rattle.script_model.specs.Lines as lines;
 ghost use Rattle.script_model.specs.Lines.{Event, block, head, pieces, first_line, first_feed, first_fault, behind_line, event_if};
-ghost use Rattle.script_model.specs.Words.{command_of, replay};
+ghost use Rattle.script_model.specs.Words.{Op, command_of, replay};
 ghost use Rattle.trie_model.specs.State.{State};
 ghost use Rattle.trie_model.specs.Root as trie;
 ghost use Rattle.batch_model.specs.Changes.{Changes, after};
@@ -24,7 +24,8 @@ ghost use Rattle.output_model.specs.Apply.{apply_script};
 ghost use Rattle.output_model.specs.Readings.{same_states, same_text};
 ghost use Rattle.output_model.specs.Output.{IsOutputOf};
 ghost use Rattle.output_model.specs.Replay.{IsReplay, IsOfState, replayed};
-ghost use Rattle.output_model.specs.Laws.{IfGoesOn, state_after, keeps_blocks, tells_block, IsTold};
+ghost use Rattle.output_model.specs.Prove.{changes_in, reads_in};
+ghost use Rattle.output_model.specs.Laws.{IfGoesOn, state_after, keeps_blocks, last_made, tells_block, IsTold};
 
 /// The first line of what is left of an input decides what becomes of it: whether it can be read and
 /// what it asks for, and then what comes behind it. Where nothing is left, the last request does.
@@ -93,6 +94,14 @@ pub fn quiet_events_do_the_same()
 /// Each command but `replay` has one output.
 pub fn other_commands_have_one_output()
     ensures { (limits : RunLimits) (words : List (List ℕ)) (input : List ℕ) (one other : Output) → command_of words ≢ Some replay → IsOutputOf limits words input one → IsOutputOf limits words input other → one ≡ other }
+{}
+
+/// Operations change what the last of them that changes a key makes of it, and they read keys in their
+/// order. More changes are never fewer keys.
+pub fn last_operation_counts()
+    ensures changes { (key : List ℕ) (ops : List Op) → get (changes_in ops) key ≡ last_made key ops }
+    ensures more { (ops further : List Op) → len (changes_in ops) ≤ len (changes_in (ops ++ further)) }
+    ensures reads { (ops further : List Op) → reads_in (ops ++ further) ≡ reads_in ops ++ reads_in further }
 {}
 
 /// A recording that is replayed to its end over texts that can't be taken for others of a state with its

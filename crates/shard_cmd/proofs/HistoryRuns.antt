@@ -3,7 +3,7 @@ use Rattle.std.proofs.Common.{◌≡◌, ◌≢◌, ℕ, ◌+◌, ◌≤◌, Lis
 use Rattle.std.specs.Prelude.{◌⊎◌}
 use Rattle.base_core.specs.Faults.{risen}
 use Rattle.fork_model.specs.States.{ForkState}
-use Rattle.count_model.specs.Loads.{Access, look_up, no_texts, loads}
+use Rattle.count_model.specs.Loads.{Access, no_texts, loads}
 use Rattle.text_store.specs.Store.{Store}
 use Rattle.text_store.specs.Leaves.{CountsLoads}
 use Rattle.shard_core.specs.Shards.{ShardState}
@@ -11,7 +11,6 @@ use Rattle.output_model.specs.Ends.{Output, Ending, RunLimits, done, syntax, ref
 use Rattle.output_model.specs.Scripts.{Outcome, onward}
 use Rattle.output_model.specs.Histories.{History, outside}
 use Rattle.output_model.specs.Apply.{nothing_more}
-use Rattle.output_model.specs.Get.{get_request}
 use Rattle.output_model.specs.Output.{live_behind}
 use Rattle.script_io.specs.Streams.{AppendsPrefix}
 use Rattle.shard_cmd.specs.declared.status.Status.{Status}
@@ -19,7 +18,7 @@ use Rattle.shard_cmd.specs.declared.status.Status.TheVariants as status
 use Rattle.shard_cmd.specs.Ends.{EndsAs, HasEnding, Finishes, FinishesAs, IsWritten, ending_of, run_ended}
 use Rattle.shard_cmd.specs.HandedBack.{EndsRun, HoldsBlocks, IfSettled}
 use Rattle.shard_cmd.specs.Histories.{IsGoing}
-use Rattle.shard_cmd.specs.Requests.{Gets}
+use Rattle.shard_cmd.specs.Requests.{Answered}
 use Rattle.shard_cmd.specs.Sending.{Sends, Reaches, IsWithin, Stops, Fails, Loads, EndsHistory, ended_with, request_at}
 use Rattle.shard_cmd.proofs.Answered.{loads_end}
 use Rattle.shard_cmd.proofs.Scripts.{onward-onward}
@@ -158,28 +157,28 @@ history_ends store count_of limits shard outcome old before mid after kept given
         closes store count_of outcome old shard.nodes before mid after kept ended faults now status.Done done (outside whole.0) refl whole.1 (holds store count_of limits shard whole.0 whole.2) finish.0 finish.1
     by_given (inr n) = early_ends store count_of limits nothing_more no_texts shard outcome old before mid after kept given ended faults now n h f
 
--- ---- behind the last request of `get`
+-- ---- behind the last request
 
-module _ {N : Type 0} (store : Store N) (count_of : N → List ℕ → ℕ) (limits : RunLimits) (id key : List ℕ) (shard new : ShardState N) (outcome : Outcome History) (old : N) (before mid after : Option (List ℕ)) (kept later : List ℕ) (ended : Status) (faults now : ℕ) where
+module _ {N : Type 0} (store : Store N) (count_of : N → List ℕ → ℕ) (limits : RunLimits) (request : ForkState → Output) (access : Access) (shard new : ShardState N) (outcome : Outcome History) (old : N) (before mid after : Option (List ℕ)) (kept later : List ℕ) (ended : Status) (faults now : ℕ) where
   abbrev cost_at : ForkState → ℕ
-  cost_at forks = loads limits.blocks forks (look_up id key)
+  cost_at forks = loads limits.blocks forks access
 
   abbrev AtRequest : ForkState → Type 0
-  AtRequest forks = Reaches outcome (request_at limits (get_request id key) (look_up id key) forks) before mid kept (record { before = store.loads old; now = store.loads shard.nodes })
+  AtRequest forks = Reaches outcome (request_at limits request access forks) before mid kept (record { before = store.loads old; now = store.loads shard.nodes })
 
   all_loads : (forks : ForkState) (r : AtRequest forks) → risen (store.loads shard.nodes) (cost_at forks) ≡ risen (store.loads old) (r.loaded + cost_at forks)
   all_loads forks r = ap (λ m. risen m (cost_at forks)) r.counted ∙ risen-risen (store.loads old) r.loaded (cost_at forks)
 
   -- answered in full
-  in_full : (forks : ForkState) (ending : Ending) (r : AtRequest forks) → (get_request id key forks).ending ≡ ending → later ≡ kept ++ (get_request id key forks).bytes → store.loads new.nodes ≡ risen (store.loads shard.nodes) (cost_at forks)
+  in_full : (forks : ForkState) (ending : Ending) (r : AtRequest forks) → (request forks).ending ≡ ending → later ≡ kept ++ (request forks).bytes → store.loads new.nodes ≡ risen (store.loads shard.nodes) (cost_at forks)
       → Reaches outcome (ended_with ending (outside forks)) before mid later (record { before = store.loads old; now = store.loads new.nodes })
   in_full forks ending r e put more = record {
-    replies = r.replies ++ (get_request id key forks).bytes;
+    replies = r.replies ++ (request forks).bytes;
     loaded = r.loaded + cost_at forks;
-    outcome_is = r.outcome_is ∙ ap (λ (o : Outcome History). onward r.replies r.loaded o) (closed (get_request id key forks) (cost_at forks) (outside forks))
-        ∙ onward-onward r.replies (get_request id key forks).bytes r.loaded (cost_at forks) (ended_with (get_request id key forks).ending (outside forks))
-        ∙ ap (λ (x : Ending). onward (r.replies ++ (get_request id key forks).bytes) (r.loaded + cost_at forks) (ended_with x (outside forks))) e;
-    sends = Sends-more before mid r.replies kept (get_request id key forks).bytes later put r.sends;
+    outcome_is = r.outcome_is ∙ ap (λ (o : Outcome History). onward r.replies r.loaded o) (closed (request forks) (cost_at forks) (outside forks))
+        ∙ onward-onward r.replies (request forks).bytes r.loaded (cost_at forks) (ended_with (request forks).ending (outside forks))
+        ∙ ap (λ (x : Ending). onward (r.replies ++ (request forks).bytes) (r.loaded + cost_at forks) (ended_with x (outside forks))) e;
+    sends = Sends-more before mid r.replies kept (request forks).bytes later put r.sends;
     counted = more ∙ all_loads forks r;
   }
 
@@ -190,12 +189,12 @@ module _ {N : Type 0} (store : Store N) (count_of : N → List ℕ → ℕ) (lim
       let up = r.counted in
       record { least = omega (arith, up, least); most = omega (arith, most, sum, all) }
 
-  by_answer : (forks : ForkState) (r : AtRequest forks) (given : Status) → Gets store count_of limits forks id key shard new kept later given → Finishes given ended later mid after faults now → EndsRun store count_of (live_behind outcome) old new.nodes before after ended
+  by_answer : (forks : ForkState) (r : AtRequest forks) (given : Status) → Answered store count_of limits forks (request forks) access shard new kept later given → Finishes given ended later mid after faults now → EndsRun store count_of (live_behind outcome) old new.nodes before after ended
   by_answer forks r status.Done g f =
       closes store count_of outcome old new.nodes before mid after later ended faults now status.Done done (outside forks) refl (in_full forks done r g.answers.0 g.answers.1 g.counted) (holds store count_of limits new forks g.shard) f.0 f.1
   by_answer forks r status.NoMemory g f =
       short_whole store count_of outcome old new.nodes before mid after later ended faults now
-      (fails outcome (request_at limits (get_request id key) (look_up id key) forks) r.replies r.loaded r.outcome_is before mid kept r.sends (record { before = store.loads old; now = store.loads new.nodes }) (in_part forks r g.counted.0 g.counted.1)) f.1 f.0
+      (fails outcome (request_at limits request access forks) r.replies r.loaded r.outcome_is before mid kept r.sends (record { before = store.loads old; now = store.loads new.nodes }) (in_part forks r g.counted.0 g.counted.1)) f.1 f.0
   by_answer forks r status.Usage g f = absurd g.answers
   by_answer forks r status.Syntax g f = absurd g.answers
   by_answer forks r status.Refused g f =
@@ -212,21 +211,22 @@ module _ {N : Type 0} (store : Store N) (count_of : N → List ℕ → ℕ) (lim
         sends = Sends-more before mid r.replies kept g.answers.part later g.answers.put r.sends;
         within = within;
       }) (within.least, within.most) f.0 f.1
-  by_answer forks r status.Clash g f = absurd g.answers
+  by_answer forks r status.Clash g f =
+      closes store count_of outcome old new.nodes before mid after later ended faults now status.Clash clash (outside forks) refl (in_full forks clash r g.answers.0 g.answers.1 g.counted) tt f.0 f.1
 
-  pub get_ends : (read given : Status) → EndsHistory limits (get_request id key) (look_up id key) outcome (IsGoing store count_of limits shard) before mid kept (record { before = store.loads old; now = store.loads shard.nodes }) read
-      → (read ≡ status.Done → (limits : RunLimits) (forks : ForkState) → IsGoing store count_of limits shard forks → Gets store count_of limits forks id key shard new kept later given)
+  pub request_ends : (read given : Status) → EndsHistory limits request access outcome (IsGoing store count_of limits shard) before mid kept (record { before = store.loads old; now = store.loads shard.nodes }) read
+      → (read ≡ status.Done → (limits : RunLimits) (forks : ForkState) → IsGoing store count_of limits shard forks → Answered store count_of limits forks (request forks) access shard new kept later given)
       → (read ≢ status.Done → (given ≡ read) × (new ≡ shard) × (later ≡ kept)) → Finishes given ended later mid after faults now → EndsRun store count_of (live_behind outcome) old new.nodes before after ended
-  get_ends read given h answered others f = by_read (is_whole read)
+  request_ends read given h answered others f = by_read (is_whole read)
     where
       by_read : ((read ≡ status.Done) ⊎ (read ≢ status.Done)) → EndsRun store count_of (live_behind outcome) old new.nodes before after ended
       by_read (inl e) =
-          let whole = subst (EndsHistory limits (get_request id key) (look_up id key) outcome (IsGoing store count_of limits shard) before mid kept (record { before = store.loads old; now = store.loads shard.nodes })) e h in
+          let whole = subst (EndsHistory limits request access outcome (IsGoing store count_of limits shard) before mid kept (record { before = store.loads old; now = store.loads shard.nodes })) e h in
           by_answer whole.0 whole.1 given (answered e limits whole.0 whole.2) f
       by_read (inr n) =
           let same = others n in
           let finish : Finishes read ended kept mid after faults now = subst (λ (l : List ℕ). Finishes read ended l mid after faults now) same.2 (subst (λ s. Finishes s ended later mid after faults now) same.0 f) in
-          rw same.1 (early_ends store count_of limits (get_request id key) (look_up id key) shard outcome old before mid after kept read ended faults now n h finish)
+          rw same.1 (early_ends store count_of limits request access shard outcome old before mid after kept read ended faults now n h finish)
 
 -- a run that had no memory to begin with
 pub never_begun : {N : Type 0} (store : Store N) (count_of : N → List ℕ → ℕ) (outcome : Outcome ForkState) (old new : N) (before : Option (List ℕ)) → new ≡ old → EndsRun store count_of outcome old new before before status.NoMemory

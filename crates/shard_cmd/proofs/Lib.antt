@@ -17,3 +17,5 @@ pub mod Requests
 pub mod HistoryRuns
 -- recordings
 pub mod Recordings
+pub mod Gathered
+pub mod Proving

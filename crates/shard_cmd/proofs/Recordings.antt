@@ -38,7 +38,7 @@ use Rattle.shard_cmd.specs.Replies.{IsOneReply, IsReply}
 
 -- ---- the answers, line by line
 
-drop_at : {X : Type 0} (xs : List X) (i : ℕ) (x : X) → slice_get xs i ≡ Some x → drop i xs ≡ x ∷ drop (i + 1) xs
+pub drop_at : {X : Type 0} (xs : List X) (i : ℕ) (x : X) → slice_get xs i ≡ Some x → drop i xs ≡ x ∷ drop (i + 1) xs
 drop_at xs i x e = at_drop_more (λ ys. ys) xs i x (slice_get_within xs i x e) ∙ ap (λ y. y ∷ drop (i + 1) xs) (get_or_from_slice_get xs i x x e)
 
 pub answers-left : (answers : List (Option (List ℕ))) (place : ℕ) (value : Option (List ℕ)) → slice_get answers place ≡ Some value → read_lines (drop place answers) ≡ read_line value ++ read_lines (drop (place + 1) answers)

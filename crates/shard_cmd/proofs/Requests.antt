@@ -1,4 +1,4 @@
--- The last request of `get`.
+-- The last request behind a history.
 use Rattle.std.proofs.Common.{◌≡◌, ◌≢◌, ℕ, ◌≤◌, List, ◌++◌, append_assoc, Option, Some, None, Result, Ok, Err, OnOk, inl, inr, refl, sym, ap, subst, ◌∙◌, arith}
 use Rattle.std.specs.Prelude.{◌⊎◌}
 use Rattle.std.specs.Option.{IsSomeAnd}
@@ -10,7 +10,7 @@ use Rattle.count_model.specs.Loads.{look_up, loads}
 use Rattle.count_model.specs.Counts.{in_state}
 use Rattle.text_store.specs.Store.{Store}
 use Rattle.shard_core.specs.Shards.{ShardState}
-use Rattle.output_model.specs.Ends.{RunLimits, done, not_live}
+use Rattle.output_model.specs.Ends.{Output, RunLimits, done, not_live}
 use Rattle.output_model.specs.Readings.{flat_line, trie_line}
 use Rattle.output_model.specs.Get.{get_from, get_request}
 use Rattle.shard_cmd.specs.declared.history.Halt.{Halt}
@@ -19,7 +19,7 @@ use Rattle.shard_cmd.specs.declared.status.Status.TheVariants as status
 use Rattle.shard_cmd.specs.Histories.{Answers, IsGoing, Reads, gathered_as}
 use Rattle.shard_cmd.specs.Ends.{source_ended, sink_ended, store_ended}
 use Rattle.shard_cmd.specs.declared.status.Status.{Status}
-use Rattle.shard_cmd.specs.Requests.{AnswersGet, Gets, PutsBoth, ReadsBoth, answered_status}
+use Rattle.shard_cmd.specs.Requests.{AnswersAs, Gets, PutsBoth, ReadsBoth, answered_status}
 use Rattle.shard_cmd.proofs.Finished.{is_whole}
 
 module _ {N : Type 0} (store : Store N) (count_of : N → List ℕ → ℕ) (limits : RunLimits) (forks : ForkState) (id key : List ℕ) where
@@ -89,8 +89,8 @@ module _ {N : Type 0} (store : Store N) (count_of : N → List ℕ → ℕ) (lim
 
 -- ---- what is counted behind the request
 
-module _ (forks : ForkState) (id key before after : List ℕ) where
-  pub answered_known : (given : Status) → AnswersGet forks id key before after given → given ≢ status.Usage
+module _ (output : Output) (before after : List ℕ) where
+  pub answered_known : (given : Status) → AnswersAs output before after given → given ≢ status.Usage
   answered_known status.Done a e = absurd (cc e)
   answered_known status.NoMemory a e = absurd (cc e)
   answered_known status.Usage a e = absurd a
@@ -99,9 +99,9 @@ module _ (forks : ForkState) (id key before after : List ℕ) where
   answered_known status.ReadFault a e = absurd a
   answered_known status.WriteFault a e = absurd a
   answered_known status.StoreFault a e = absurd (cc e)
-  answered_known status.Clash a e = absurd a
+  answered_known status.Clash a e = absurd (cc e)
 
-  answered_source : (given : Status) → AnswersGet forks id key before after given → (faults : ℕ) → faults ≡ faults_after (source_ended given) faults
+  answered_source : (given : Status) → AnswersAs output before after given → (faults : ℕ) → faults ≡ faults_after (source_ended given) faults
   answered_source status.Done a faults = refl
   answered_source status.NoMemory a faults = refl
   answered_source status.Usage a faults = absurd a
@@ -110,9 +110,9 @@ module _ (forks : ForkState) (id key before after : List ℕ) where
   answered_source status.ReadFault a faults = absurd a
   answered_source status.WriteFault a faults = absurd a
   answered_source status.StoreFault a faults = refl
-  answered_source status.Clash a faults = absurd a
+  answered_source status.Clash a faults = refl
 
-  answered_sink : (given : Status) → AnswersGet forks id key before after given → (faults : ℕ) → faults ≡ faults_after (sink_ended given) faults
+  answered_sink : (given : Status) → AnswersAs output before after given → (faults : ℕ) → faults ≡ faults_after (sink_ended given) faults
   answered_sink status.Done a faults = refl
   answered_sink status.NoMemory a faults = refl
   answered_sink status.Usage a faults = absurd a
@@ -121,10 +121,10 @@ module _ (forks : ForkState) (id key before after : List ℕ) where
   answered_sink status.ReadFault a faults = absurd a
   answered_sink status.WriteFault a faults = absurd a
   answered_sink status.StoreFault a faults = refl
-  answered_sink status.Clash a faults = absurd a
+  answered_sink status.Clash a faults = refl
 
 -- whether the script was read to its end or not
-module _ (id key before after : List ℕ) (read given : Status) (answered : read ≡ status.Done → (forks : ForkState) × AnswersGet forks id key before after given) (others : read ≢ status.Done → given ≡ read) where
+module _ (before after : List ℕ) (read given : Status) (answered : read ≡ status.Done → (output : Output) × AnswersAs output before after given) (others : read ≢ status.Done → given ≡ read) where
   pub read_whole : given ≡ status.Done → read ≡ status.Done
   read_whole e = by_read (is_whole read)
     where
@@ -136,21 +136,21 @@ module _ (id key before after : List ℕ) (read given : Status) (answered : read
   never_usage h = by_read (is_whole read)
     where
       by_read : ((read ≡ status.Done) ⊎ (read ≢ status.Done)) → given ≢ status.Usage
-      by_read (inl whole) = let a = answered whole in answered_known a.0 id key before after given a.1
+      by_read (inl whole) = let a = answered whole in answered_known a.0 before after given a.1
       by_read (inr n) = λ e. absurd (h (sym (others n) ∙ e))
 
   pub same_source : (first now : ℕ) → now ≡ faults_after (source_ended read) first → now ≡ faults_after (source_ended given) first
   same_source first now h = by_read (is_whole read)
     where
       by_read : ((read ≡ status.Done) ⊎ (read ≢ status.Done)) → now ≡ faults_after (source_ended given) first
-      by_read (inl whole) = let a = answered whole in subst (λ s. now ≡ faults_after (source_ended s) first) whole h ∙ answered_source a.0 id key before after given a.1 first
+      by_read (inl whole) = let a = answered whole in subst (λ s. now ≡ faults_after (source_ended s) first) whole h ∙ answered_source a.0 before after given a.1 first
       by_read (inr n) = subst (λ s. now ≡ faults_after (source_ended s) first) (sym (others n)) h
 
   pub same_sink : (first now : ℕ) → now ≡ faults_after (sink_ended read) first → now ≡ faults_after (sink_ended given) first
   same_sink first now h = by_read (is_whole read)
     where
       by_read : ((read ≡ status.Done) ⊎ (read ≢ status.Done)) → now ≡ faults_after (sink_ended given) first
-      by_read (inl whole) = let a = answered whole in subst (λ s. now ≡ faults_after (sink_ended s) first) whole h ∙ answered_sink a.0 id key before after given a.1 first
+      by_read (inl whole) = let a = answered whole in subst (λ s. now ≡ faults_after (sink_ended s) first) whole h ∙ answered_sink a.0 before after given a.1 first
       by_read (inr n) = subst (λ s. now ≡ faults_after (sink_ended s) first) (sym (others n)) h
 
   pub same_store : (first mid now : ℕ) → mid ≡ faults_after (store_ended read) first → (read ≡ status.Done → now ≡ faults_after (store_ended given) mid) → (read ≢ status.Done → now ≡ mid) → now ≡ faults_after (store_ended given) first

@@ -1,19 +1,29 @@
 -- How a run ends, by what was written last.
-use Rattle.std.proofs.Common.{◌≡◌, ◌≢◌, ◌≤◌, ℕ, List, Option, Some, None, Result, Ok, IfOk, IfSome, inl, inr, refl, sym, subst, ◌∙◌, arith}
+use Rattle.std.proofs.Common.{◌≡◌, ◌≢◌, ◌≤◌, ℕ, List, length, map, true, Option, Some, None, Result, Ok, IfOk, IfSome, inl, inr, refl, sym, subst, ◌∙◌, arith}
 use Rattle.base_core.specs.declared.hash.Digest.{Digest}
-use Rattle.script_model.specs.Bounds.{IsCommanded, IsKey}
-use Rattle.script_model.specs.Words.{Command, command_of}
+use Rattle.std.specs.List.{AllByRecursion}
+use Rattle.std.proofs.lemmas.List.{length-map}
+use Rattle.fork_model.specs.States.{ForkState}
+use Rattle.text_store.specs.Store.{Store}
+use Rattle.text_store.specs.Leaves.{CountsLoads}
+use Rattle.script_model.specs.Bounds.{IsCommanded, IsKey, IsOp}
+use Rattle.script_model.specs.Words as word
+use Rattle.output_model.specs.Prove.{changes_too_many}
+use Rattle.script_model.specs.Words.{Command, command_of, most_operations}
+use Rattle.output_model.specs.Scripts.{Outcome}
 use Rattle.output_model.specs.Root.{root_output}
 use Rattle.output_model.specs.Ends.{Output, Ending, RunLimits}
-use Rattle.output_model.specs.Output.{RunOutcome, outcome_of, command_outcome}
+use Rattle.output_model.specs.Output.{RunOutcome, outcome_of, one_outcome, command_outcome}
 use Rattle.output_model.specs.Replay.{IsReplayOutput}
 use Rattle.script_io.specs.declared.command.Command.{Command as Asked}
-use Rattle.script_io.specs.declared.command.Command.TheVariants.{Get}
-use Rattle.script_io.specs.Meanings.{command}
+use Rattle.script_io.specs.declared.command.Command.TheVariants.{Get, Prove}
+use Rattle.script_io.specs.declared.op_list.Op.{Op}
+use Rattle.script_io.specs.Meanings.{command, op}
 use Rattle.shard_cmd.specs.declared.reply.Reply.{Reply}
 use Rattle.shard_cmd.specs.declared.status.Status.{Status}
 use Rattle.shard_cmd.specs.declared.status.Status.TheVariants as status
-use Rattle.shard_cmd.specs.Ends.{ending_of, EndsAs, EndsAsOne, HasEnding, HasOneEnding, FinishesAs, IsFailure, StoreCounts}
+use Rattle.shard_cmd.specs.Ends.{ending_of, EndsAs, EndsAsOne, HasEnding, HasOneEnding, FinishesAs, IsFailure, StoreCounts, run_ended}
+use Rattle.shard_cmd.specs.HandedBack.{EndsRun, HoldsBlocks, IfSettled}
 use Rattle.shard_cmd.specs.Replies.{IsReply, IsOneReply}
 
 -- what the last writing of a reply makes of the run
@@ -126,3 +136,35 @@ store_fell status.Clash faults now e = omega (arith, e)
 pub got_key : {E : Type 0} (r : Result Asked E) (id : Digest) (key : List ℕ) → r ≡ Ok (Get id key) → IfOk r (λ found. IsCommanded (command found)) → IsKey key
 unfolding IsCommanded
 got_key {E} r id key is h = (subst (λ (r : Result Asked E). IfOk r (λ found. IsCommanded (command found))) is h).1
+
+-- and the operations of `prove`
+pub asked_ops : {E : Type 0} (r : Result Asked E) (id : Digest) (ops : List Op) → r ≡ Ok (Prove id ops) → IfOk r (λ found. IsCommanded (command found)) → AllByRecursion IsOp (map op ops) × (1 ≤ length (map op ops)) × (length (map op ops) ≤ most_operations)
+unfolding IsCommanded
+asked_ops {E} r id ops is h = let all = subst (λ (r : Result Asked E). IfOk r (λ found. IsCommanded (command found))) is h in (all.1, all.2, all.3)
+
+pub few_asked : (ops : List Op) → length (map op ops) ≤ most_operations → length ops ≤ most_operations
+few_asked ops few = subst (λ n. n ≤ most_operations) (length-map ops op) few
+
+pub same_ops : (limits : RunLimits) (id other : List ℕ) (ops asked : List word.Op) → Some (word.prove id ops) ≡ Some (word.prove other asked) → changes_too_many limits ops ≡ true → changes_too_many limits asked ≡ true
+same_ops limits id other ops asked e many = let same : ops ≡ asked = cc in subst (λ (l : List word.Op). changes_too_many limits l ≡ true) same many
+
+-- ---- a command with one output and a store
+
+module _ {N : Type 0} (store : Store N) (count_of : N → List ℕ → ℕ) (limits : RunLimits) (words : List (List ℕ)) (left : Option (List ℕ)) (o : Option Command) (out : List ℕ → Outcome ForkState) (is : command_of words ≡ o) (one : (input : List ℕ) → command_outcome limits o input ≡ one_outcome (out input))
+    (old new : N) (written after : Option (List ℕ)) (end : Status) (ends : IfSome left (λ input. EndsRun store count_of (out input) old new written after end)) where
+  of_outcome : (P : RunOutcome → Type 0) → ((input : List ℕ) → EndsRun store count_of (out input) old new written after end → P (one_outcome (out input))) → IfSome left (λ input. P (outcome_of limits words input))
+  of_outcome P f =
+      by_command P limits words left o is
+      (by_input left (λ input. EndsRun store count_of (out input) old new written after end) (λ input. P (command_outcome limits o input)) (λ input e. subst (λ (r : RunOutcome). P r) (sym (one input)) (f input e)) ends)
+
+  pub run-output : IfSome left (λ input. IfSome written (λ before. EndsAsOne (outcome_of limits words input).IsOutput (ending_of end) before after))
+  run-output = of_outcome (λ outcome. IfSome written (λ before. EndsAsOne outcome.IsOutput (ending_of end) before after)) (λ input e. ends_alone (out input).output (ending_of end) written after e.output)
+
+  pub run-status : IfSome left (λ input. HasOneEnding (outcome_of limits words input).IsOutput (ending_of end))
+  run-status = of_outcome (λ outcome. HasOneEnding outcome.IsOutput (ending_of end)) (λ input e. has_alone (out input).output (ending_of end) e.ending)
+
+  pub run-counts : IfSome left (λ input. IfSettled end (HoldsBlocks (store.texts new) (count_of new) (outcome_of limits words input).left))
+  run-counts = of_outcome (λ outcome. IfSettled end (HoldsBlocks (store.texts new) (count_of new) outcome.left)) (λ input e. e.counts)
+
+  pub run-loads : IfSome left (λ input. CountsLoads (run_ended end) (store.loads old) (store.loads new) (outcome_of limits words input).loaded)
+  run-loads = of_outcome (λ outcome. CountsLoads (run_ended end) (store.loads old) (store.loads new) outcome.loaded) (λ input e. e.loads)

@@ -7,5 +7,6 @@ pub mod Events
 pub mod Histories
 pub mod Sending
 pub mod Requests
+pub mod Proving
 -- recordings
 pub mod Recordings

@@ -6,11 +6,13 @@ mod apply;
 mod events;
 mod get;
 mod history;
+mod prove;
 mod readings;
 mod recording_replies;
 mod replay;
 mod reply;
 mod reply_lines;
+mod request;
 mod root;
 mod running;
 mod script;
@@ -22,6 +24,8 @@ pub use status::{Outcome, Status};
 
 #[cfg(test)]
 mod apply_tests;
+#[cfg(test)]
+mod prove_tests;
 #[cfg(test)]
 mod replay_tests;
 #[cfg(test)]

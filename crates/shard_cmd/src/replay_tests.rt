@@ -9,15 +9,16 @@ use text_store::{MemNodes, TextSet, write_partial};
 // ---- the keys 61 and 62, each with a value that is its own byte
 
 /// The key 62 is deleted.
-const DELETION: &[u8] = &[0, 0, 0, 0, 1, 0, 0, 0, 1, 0, 0, 0, 0x62, 0];
+pub const DELETION: &[u8] = &[0, 0, 0, 0, 1, 0, 0, 0, 1, 0, 0, 0, 0x62, 0];
 
 /// And before that the keys 62 and 63 are read.
-const READS: &[u8] = &[
+pub const READS: &[u8] = &[
     2, 0, 0, 0, 1, 0, 0, 0, 0x62, 1, 0, 0, 0, 0x63, 1, 0, 0, 0, 1, 0, 0, 0, 0x62, 0,
 ];
 
 /// The root behind the deletion, which another program computed.
-const BEHIND: &[u8] = b"root cfbcdb2eb8dbb0eb842f2bcde9119be3c52b1c917c6df883427205cec06387cc\n";
+pub const BEHIND: &[u8] =
+    b"root cfbcdb2eb8dbb0eb842f2bcde9119be3c52b1c917c6df883427205cec06387cc\n";
 
 const READ_BEHIND: &[u8] =
     b"read 62\nread none\nroot cfbcdb2eb8dbb0eb842f2bcde9119be3c52b1c917c6df883427205cec06387cc\n";
@@ -53,7 +54,12 @@ fn extension(alloc: Global) -> Result<Text, AllocError> {
 }
 
 /// The nodes, and the leaf of 62 and the two values among them or not.
-fn texts(alloc: Global, leaf_too: bool, a_too: bool, b_too: bool) -> Result<TextSet, AllocError> {
+pub fn texts(
+    alloc: Global,
+    leaf_too: bool,
+    a_too: bool,
+    b_too: bool,
+) -> Result<TextSet, AllocError> {
     let mut set = TextSet::new(alloc);
     set.put(leaf(alloc, b"a")?.as_slice())?;
     set.put(branch(alloc)?.as_slice())?;
@@ -71,7 +77,7 @@ fn texts(alloc: Global, leaf_too: bool, a_too: bool, b_too: bool) -> Result<Text
 }
 
 /// A recording of these operations and texts.
-fn recording(alloc: Global, operations: &[u8], set: &TextSet) -> Result<Text, AllocError> {
+pub fn recording(alloc: Global, operations: &[u8], set: &TextSet) -> Result<Text, AllocError> {
     let mut writer = Writer::new(alloc);
     writer.put_raw(&digest(extension(alloc)?.as_slice()).0)?;
     writer.put_raw(operations)?;

@@ -1,18 +1,20 @@
-ghost use Rattle.std.specs.Prelude.{◌≡◌, ◌≢◌, ◌≤◌, [], Some, None, IfSome};
+ghost use Rattle.std.specs.Prelude.{◌≡◌, ◌≢◌, ◌≤◌, ℕ, true, List, [], Some, None, IfSome};
 ghost use Rattle.std.specs.FinMap.{empty};
 ghost use Rattle.base_core.specs.Bounds.{AreLimits};
 ghost use Rattle.base_core.specs.Faults.{Rose, faults_after};
-ghost use Rattle.script_model.specs.Words.{command_of, root, replay};
+ghost use Rattle.script_model.specs.Words.{Op, command_of, root, prove, replay};
 ghost use Rattle.text_store.specs.Leaves.{CountsLoads};
 ghost use Rattle.output_model.specs.Ends.{bad_command};
 ghost use Rattle.output_model.specs.Root.{root_output};
 ghost use Rattle.output_model.specs.Output.{IsOutputOf, outcome_of};
+ghost use Rattle.output_model.specs.Prove.{changes_too_many};
 ghost use Rattle.shard_cmd.specs.Ends.{run_limits, ending_of, EndsAs, EndsAsOne, HasEnding, HasOneEnding, IsUsageUnlessFailed, SourceCounts, StoreCounts, source_ended, sink_ended, run_ended};
 ghost use Rattle.shard_cmd.specs.HandedBack.{IfSettled, HoldsBlocks};
 
 use crate::apply::run_apply;
-use crate::get::run_get;
+use crate::prove::run_prove;
 use crate::replay::run_replay;
+use crate::request::{Request, run_request};
 use crate::root::answer_root;
 use crate::status::{Outcome, Status};
 use crate::writing::finish;
@@ -65,6 +67,10 @@ pub fn run<S: Source, K: Sink, N: Nodes>(
     ensures replay_untouched { command_of words.now ≡ Some replay → result.nodes ≡ nodes }
     ensures replay_no_store_fault { command_of words.now ≡ Some replay → result.status ≢ Status.StoreFault }
 
+    // Where `prove` changes too many keys, nothing is read and no call is made on the store.
+    ensures full_changes { (id : List ℕ) (ops : List Op) → command_of words.now ≡ Some (prove id ops) → changes_too_many (run_limits limits.now) ops ≡ true
+        → (source.new ≡ source.old) × (result.nodes ≡ nodes) }
+
     // A fault of the outside has a cause, and is told where it came.
     ensures source_faults { SourceCounts result.status (S.faults source.old) (S.faults source.new) }
     ensures root_source_faults { command_of words.now ≡ Some root → S.faults source.new ≡ faults_after (source_ended result.status) (S.faults source.old) }
@@ -85,7 +91,11 @@ pub fn run<S: Source, K: Sink, N: Nodes>(
         },
         Ok(Command::Apply) => run_apply(alloc, source, sink, nodes, limits),
         Ok(Command::Get { id, key }) => {
-            run_get(alloc, source, sink, nodes, limits, &id, key.as_slice())
+            let request = Request::Get { id, key };
+            run_request(alloc, source, sink, nodes, limits, request)
+        }
+        Ok(Command::Prove { id, ops }) => {
+            run_prove(alloc, source, sink, nodes, limits, &id, &ops)
         }
         Ok(Command::Replay) => Outcome {
             status: run_replay(alloc, source, sink),

@@ -22,7 +22,7 @@ fn spelling(letter: u8) -> Option<&'static [u8]> {
     }
 }
 
-fn spelled(alloc: Global, text: &[u8]) -> Result<Text, AllocError> {
+pub fn spelled(alloc: Global, text: &[u8]) -> Result<Text, AllocError> {
     let mut bytes = Vec::new(alloc);
     for byte in text {
         match spelling(*byte) {
@@ -35,12 +35,12 @@ fn spelled(alloc: Global, text: &[u8]) -> Result<Text, AllocError> {
 
 /// A run of the words on the script, over a store that fails at a call, and the bytes that it wrote.
 #[derive(Drop)]
-struct Ended {
-    outcome: Outcome<MemNodes>,
-    written: MemSink,
+pub struct Ended {
+    pub outcome: Outcome<MemNodes>,
+    pub written: MemSink,
 }
 
-fn run_over(
+pub fn run_over(
     alloc: Global,
     command: &[&[u8]],
     script: &[u8],
@@ -61,7 +61,7 @@ fn run_over(
 
 /// The words and the script give this output and status. So many texts are loaded, and so many are
 /// held then.
-fn expect(
+pub fn expect(
     rt: &impl Abort,
     alloc: Global,
     command: &[&[u8]],
@@ -77,7 +77,7 @@ fn expect(
     Ok(())
 }
 
-const LINE: &[u8] = b"block A Z 1\nset 61 61\nset 62 62\nend\nblock B A 2\ndel 62\nend\n";
+pub const LINE: &[u8] = b"block A Z 1\nset 61 61\nset 62 62\nend\nblock B A 2\ndel 62\nend\n";
 
 /// One of two keys is deleted. Its leaf stays until the head has passed the block.
 #[test]
@@ -181,7 +181,7 @@ fn keys_behind_a_script(rt: HostRuntime) -> Result<(), Fail> {
 }
 
 /// Two forks of one state, and what is read of them.
-const FORKS: &[u8] = b"block A Z 1\nset 61 61\nset 62 62\nend\nblock B A 2\ndel 62\nend\n\
+pub const FORKS: &[u8] = b"block A Z 1\nset 61 61\nset 62 62\nend\nblock B A 2\ndel 62\nend\n\
     block C Z 1\nset 61 61\nend\ntrie B 61\nusage C\nhead B\nstats\n";
 
 const FORKS_OUTPUT: &[u8] = b"block A ok T\nblock B ok R\nblock C ok R\ntrie 61\nusage 105\n\
@@ -214,7 +214,7 @@ fn expect_between(rt: &impl Abort, count: u64, (least, most): Span) {
 }
 
 /// The run is over before the call comes at which the store fails.
-fn expect_done(
+pub fn expect_done(
     rt: &impl Abort,
     alloc: Global,
     command: &[&[u8]],
@@ -231,15 +231,13 @@ fn expect_done(
 /// What stands for each step that calls the store: how many calls it makes, how many bytes of the
 /// output are written where one of them fails, between how many texts are held then, and between
 /// how often the value 61 is counted.
-fn expect_faults(
+pub fn expect_faults(
     rt: &impl Abort,
     alloc: Global,
     command: &[&[u8]],
     output: &[u8],
     steps: &[(u64, usize, Span, Span)],
 ) -> Result<(), Fail> {
-    let output = spelled(alloc, output)?;
-    let output = output.as_slice();
     let mut fails = 1u64;
     for (calls, written, held, counted) in steps {
         let Some((written, _)) = output.split_at_checked(*written) else {
@@ -265,7 +263,8 @@ fn failing_stores(rt: HostRuntime) -> Result<(), Fail> {
         (1, 425, (7, 7), (2, 2)),
         (7, 435, (2, 7), (1, 2)),
     ];
-    expect_faults(&rt, alloc, &[b"apply"], FORKS_OUTPUT, &steps)?;
+    let output = spelled(alloc, FORKS_OUTPUT)?;
+    expect_faults(&rt, alloc, &[b"apply"], output.as_slice(), &steps)?;
     let steps = [
         (7, 0, (0, 6), (0, 1)),
         (6, 0, (6, 7), (1, 1)),

@@ -33,7 +33,7 @@ use Rattle.shard_core.proofs.OfBlocks.{holds-there, root-at, state-there, state-
 differ : true ≡ false → ⊥
 differ e = cc
 
-tries-alike : (texts later : Table) (count_of count_after : List ℕ → ℕ) (ledgers : Ledgers) (blocks : ForkState) → texts ≡ later → ((digest : List ℕ) → count_of digest ≡ count_after digest) → AreTriesOf texts count_of ledgers blocks → AreTriesOf later count_after ledgers blocks
+pub tries-alike : (texts later : Table) (count_of count_after : List ℕ → ℕ) (ledgers : Ledgers) (blocks : ForkState) → texts ≡ later → ((digest : List ℕ) → count_of digest ≡ count_after digest) → AreTriesOf texts count_of ledgers blocks → AreTriesOf later count_after ledgers blocks
 tries-alike texts later count_of count_after ledgers blocks same counts is = record {
   blocks = is.blocks;
   states = is.states;

@@ -1,43 +1,39 @@
-use Rattle.std.proofs.Common.{◌≡◌, refl, sym, ap, ◌∙◌, Ok, Err, Some, None, IfSome}
-use Rattle.script_io.specs.declared.command.Command.TheVariants.{Root, Apply, Get, Replay}
-use Rattle.script_model.specs.Words.{root, apply, get, replay}
+use Rattle.std.proofs.Common.{◌≡◌, map, refl, sym, ap, ◌∙◌, Ok, Err, Some, None, IfSome}
+use Rattle.script_io.specs.declared.command.Command.TheVariants.{Root, Apply, Get, Prove, Replay}
+use Rattle.script_model.specs.Words.{root, apply, get, prove, replay}
+use Rattle.script_io.specs.Meanings.{op}
 use Rattle.text_store.specs.Leaves.{CountsLoads}
 use Rattle.output_model.specs.Ends.{bad_command}
 use Rattle.output_model.specs.Scripts.{script_outcome}
 use Rattle.output_model.specs.Apply.{apply_script}
 use Rattle.output_model.specs.Get.{get_script}
 use Rattle.output_model.specs.Root.{root_output}
-use Rattle.output_model.specs.Output.{live_behind}
+use Rattle.output_model.specs.Output.{live_behind, prove_outcome}
 use Rattle.shard_cmd.specs.Ends.{ending_of, run_ended, run_limits, EndsAs, EndsAsOne, HasEnding, HasOneEnding}
-use Rattle.shard_cmd.specs.HandedBack.{EndsRun, IfSettled, HoldsBlocks}
 use Rattle.shard_cmd.specs.declared.status.Status.TheVariants.{Usage}
 use Rattle.shard_cmd.proofs.Answered.{no_loads}
-use Rattle.shard_cmd.proofs.Runs.{by_command, by_input, each_input, ends_alone, has_alone, told, has_ending, command_read, got_key, store_same}
+use Rattle.shard_cmd.proofs.Runs.{asked_ops, by_command, by_input, command_read, each_input, ends_alone, few_asked, got_key, has_alone, has_ending, run-counts, run-loads, run-output, run-status, same_ops, store_same, told}
 use Rattle.shard_cmd.proofs.running.run.Goals as goal
 
 pub returns-in-Ok-Apply-clause-output : goal.returns-in-Ok-Apply-clause-output
-returns-in-Ok-Apply-clause-output g c = by_command (λ outcome. IfSome (g.K.Sink.written c.args.sink.now) (λ before. EndsAsOne outcome.IsOutput (ending_of c.run_apply.result.status) before (g.K.Sink.written c.run_apply.new.sink))) (run_limits c.args.limits.now) c.args.words.now (g.S.Source.left c.args.source.now) (Some (apply))
-    (command_read c.args.words.now c.read_command.result Apply (c.in-Ok-Apply.is ∙ ap Ok c.in-Ok-Apply.field-0-is) c.read_command.ensures.ok)
-    (by_input (g.S.Source.left c.args.source.now) (λ input. EndsRun g.N.Texts.store g.N.Nodes.count_of (live_behind (script_outcome (apply_script (run_limits c.args.limits.now)) input)) c.args.nodes c.run_apply.result.nodes (g.K.Sink.written c.args.sink.now) (g.K.Sink.written c.run_apply.new.sink) c.run_apply.result.status)
-    (λ input. IfSome (g.K.Sink.written c.args.sink.now) (λ before. EndsAsOne (λ o. o ≡ (live_behind (script_outcome (apply_script (run_limits c.args.limits.now)) input)).output) (ending_of c.run_apply.result.status) before (g.K.Sink.written c.run_apply.new.sink))) (λ input ends. ends_alone (live_behind (script_outcome (apply_script (run_limits c.args.limits.now)) input)).output (ending_of c.run_apply.result.status) (g.K.Sink.written c.args.sink.now) (g.K.Sink.written c.run_apply.new.sink) ends.output) c.run_apply.ensures.ends)
+returns-in-Ok-Apply-clause-output g c = run-output g.N.Texts.store g.N.Nodes.count_of (run_limits c.args.limits.now) c.args.words.now (g.S.Source.left c.args.source.now) (Some (apply)) (λ input. live_behind (script_outcome (apply_script (run_limits c.args.limits.now)) input))
+    (command_read c.args.words.now c.read_command.result Apply (c.in-Ok-Apply.is ∙ ap Ok c.in-Ok-Apply.field-0-is) c.read_command.ensures.ok) (λ input. refl)
+    c.args.nodes c.run_apply.result.nodes (g.K.Sink.written c.args.sink.now) (g.K.Sink.written c.run_apply.new.sink) c.run_apply.result.status c.run_apply.ensures.ends
 
 pub returns-in-Ok-Apply-clause-status : goal.returns-in-Ok-Apply-clause-status
-returns-in-Ok-Apply-clause-status g c = by_command (λ outcome. HasOneEnding outcome.IsOutput (ending_of c.run_apply.result.status)) (run_limits c.args.limits.now) c.args.words.now (g.S.Source.left c.args.source.now) (Some (apply))
-    (command_read c.args.words.now c.read_command.result Apply (c.in-Ok-Apply.is ∙ ap Ok c.in-Ok-Apply.field-0-is) c.read_command.ensures.ok)
-    (by_input (g.S.Source.left c.args.source.now) (λ input. EndsRun g.N.Texts.store g.N.Nodes.count_of (live_behind (script_outcome (apply_script (run_limits c.args.limits.now)) input)) c.args.nodes c.run_apply.result.nodes (g.K.Sink.written c.args.sink.now) (g.K.Sink.written c.run_apply.new.sink) c.run_apply.result.status)
-    (λ input. HasOneEnding (λ o. o ≡ (live_behind (script_outcome (apply_script (run_limits c.args.limits.now)) input)).output) (ending_of c.run_apply.result.status)) (λ input ends. has_alone (live_behind (script_outcome (apply_script (run_limits c.args.limits.now)) input)).output (ending_of c.run_apply.result.status) ends.ending) c.run_apply.ensures.ends)
+returns-in-Ok-Apply-clause-status g c = run-status g.N.Texts.store g.N.Nodes.count_of (run_limits c.args.limits.now) c.args.words.now (g.S.Source.left c.args.source.now) (Some (apply)) (λ input. live_behind (script_outcome (apply_script (run_limits c.args.limits.now)) input))
+    (command_read c.args.words.now c.read_command.result Apply (c.in-Ok-Apply.is ∙ ap Ok c.in-Ok-Apply.field-0-is) c.read_command.ensures.ok) (λ input. refl)
+    c.args.nodes c.run_apply.result.nodes (g.K.Sink.written c.args.sink.now) (g.K.Sink.written c.run_apply.new.sink) c.run_apply.result.status c.run_apply.ensures.ends
 
 pub returns-in-Ok-Apply-clause-counts : goal.returns-in-Ok-Apply-clause-counts
-returns-in-Ok-Apply-clause-counts g c = λ other another. by_command (λ outcome. IfSettled c.run_apply.result.status (HoldsBlocks (g.N.Texts.store.texts c.run_apply.result.nodes) (g.N.Nodes.count_of c.run_apply.result.nodes) outcome.left)) (run_limits c.args.limits.now) c.args.words.now (g.S.Source.left c.args.source.now) (Some (apply))
-    (command_read c.args.words.now c.read_command.result Apply (c.in-Ok-Apply.is ∙ ap Ok c.in-Ok-Apply.field-0-is) c.read_command.ensures.ok)
-    (by_input (g.S.Source.left c.args.source.now) (λ input. EndsRun g.N.Texts.store g.N.Nodes.count_of (live_behind (script_outcome (apply_script (run_limits c.args.limits.now)) input)) c.args.nodes c.run_apply.result.nodes (g.K.Sink.written c.args.sink.now) (g.K.Sink.written c.run_apply.new.sink) c.run_apply.result.status)
-    (λ input. IfSettled c.run_apply.result.status (HoldsBlocks (g.N.Texts.store.texts c.run_apply.result.nodes) (g.N.Nodes.count_of c.run_apply.result.nodes) (live_behind (script_outcome (apply_script (run_limits c.args.limits.now)) input)).left)) (λ input ends. ends.counts) c.run_apply.ensures.ends)
+returns-in-Ok-Apply-clause-counts g c = λ other another. run-counts g.N.Texts.store g.N.Nodes.count_of (run_limits c.args.limits.now) c.args.words.now (g.S.Source.left c.args.source.now) (Some (apply)) (λ input. live_behind (script_outcome (apply_script (run_limits c.args.limits.now)) input))
+    (command_read c.args.words.now c.read_command.result Apply (c.in-Ok-Apply.is ∙ ap Ok c.in-Ok-Apply.field-0-is) c.read_command.ensures.ok) (λ input. refl)
+    c.args.nodes c.run_apply.result.nodes (g.K.Sink.written c.args.sink.now) (g.K.Sink.written c.run_apply.new.sink) c.run_apply.result.status c.run_apply.ensures.ends
 
 pub returns-in-Ok-Apply-clause-loads : goal.returns-in-Ok-Apply-clause-loads
-returns-in-Ok-Apply-clause-loads g c = by_command (λ outcome. CountsLoads (run_ended c.run_apply.result.status) (g.N.Texts.store.loads c.args.nodes) (g.N.Texts.store.loads c.run_apply.result.nodes) outcome.loaded) (run_limits c.args.limits.now) c.args.words.now (g.S.Source.left c.args.source.now) (Some (apply))
-    (command_read c.args.words.now c.read_command.result Apply (c.in-Ok-Apply.is ∙ ap Ok c.in-Ok-Apply.field-0-is) c.read_command.ensures.ok)
-    (by_input (g.S.Source.left c.args.source.now) (λ input. EndsRun g.N.Texts.store g.N.Nodes.count_of (live_behind (script_outcome (apply_script (run_limits c.args.limits.now)) input)) c.args.nodes c.run_apply.result.nodes (g.K.Sink.written c.args.sink.now) (g.K.Sink.written c.run_apply.new.sink) c.run_apply.result.status)
-    (λ input. CountsLoads (run_ended c.run_apply.result.status) (g.N.Texts.store.loads c.args.nodes) (g.N.Texts.store.loads c.run_apply.result.nodes) (live_behind (script_outcome (apply_script (run_limits c.args.limits.now)) input)).loaded) (λ input ends. ends.loads) c.run_apply.ensures.ends)
+returns-in-Ok-Apply-clause-loads g c = run-loads g.N.Texts.store g.N.Nodes.count_of (run_limits c.args.limits.now) c.args.words.now (g.S.Source.left c.args.source.now) (Some (apply)) (λ input. live_behind (script_outcome (apply_script (run_limits c.args.limits.now)) input))
+    (command_read c.args.words.now c.read_command.result Apply (c.in-Ok-Apply.is ∙ ap Ok c.in-Ok-Apply.field-0-is) c.read_command.ensures.ok) (λ input. refl)
+    c.args.nodes c.run_apply.result.nodes (g.K.Sink.written c.args.sink.now) (g.K.Sink.written c.run_apply.new.sink) c.run_apply.result.status c.run_apply.ensures.ends
 
 pub returns-in-Ok-Apply-clause-root_untouched : goal.returns-in-Ok-Apply-clause-root_untouched
 returns-in-Ok-Apply-clause-root_untouched g c = λ asked. let other = sym asked ∙ command_read c.args.words.now c.read_command.result Apply (c.in-Ok-Apply.is ∙ ap Ok c.in-Ok-Apply.field-0-is) c.read_command.ensures.ok in absurd (cc other)
@@ -57,29 +53,28 @@ returns-in-Ok-Apply-clause-root_source_faults g c = λ asked. let other = sym as
 pub returns-in-Ok-Apply-clause-replay_source_faults : goal.returns-in-Ok-Apply-clause-replay_source_faults
 returns-in-Ok-Apply-clause-replay_source_faults g c = λ asked. let other = sym asked ∙ command_read c.args.words.now c.read_command.result Apply (c.in-Ok-Apply.is ∙ ap Ok c.in-Ok-Apply.field-0-is) c.read_command.ensures.ok in absurd (cc other)
 
+pub returns-in-Ok-Apply-clause-full_changes : goal.returns-in-Ok-Apply-clause-full_changes
+returns-in-Ok-Apply-clause-full_changes g c = λ id ops asked many. let other = sym asked ∙ command_read c.args.words.now c.read_command.result Apply (c.in-Ok-Apply.is ∙ ap Ok c.in-Ok-Apply.field-0-is) c.read_command.ensures.ok in absurd (cc other)
+
 pub returns-in-Ok-Get-clause-output : goal.returns-in-Ok-Get-clause-output
-returns-in-Ok-Get-clause-output g c = by_command (λ outcome. IfSome (g.K.Sink.written c.args.sink.now) (λ before. EndsAsOne outcome.IsOutput (ending_of c.run_get.result.status) before (g.K.Sink.written c.run_get.new.sink))) (run_limits c.args.limits.now) c.args.words.now (g.S.Source.left c.args.source.now) (Some (get c.in-Ok-Get.id.0 c.in-Ok-Get.key))
-    (command_read c.args.words.now c.read_command.result (Get c.in-Ok-Get.id c.in-Ok-Get.key) (c.in-Ok-Get.is ∙ ap Ok c.in-Ok-Get.field-0-is) c.read_command.ensures.ok)
-    (by_input (g.S.Source.left c.args.source.now) (λ input. EndsRun g.N.Texts.store g.N.Nodes.count_of (live_behind (script_outcome (get_script (run_limits c.args.limits.now) c.in-Ok-Get.id.0 c.in-Ok-Get.key) input)) c.args.nodes c.run_get.result.nodes (g.K.Sink.written c.args.sink.now) (g.K.Sink.written c.run_get.new.sink) c.run_get.result.status)
-    (λ input. IfSome (g.K.Sink.written c.args.sink.now) (λ before. EndsAsOne (λ o. o ≡ (live_behind (script_outcome (get_script (run_limits c.args.limits.now) c.in-Ok-Get.id.0 c.in-Ok-Get.key) input)).output) (ending_of c.run_get.result.status) before (g.K.Sink.written c.run_get.new.sink))) (λ input ends. ends_alone (live_behind (script_outcome (get_script (run_limits c.args.limits.now) c.in-Ok-Get.id.0 c.in-Ok-Get.key) input)).output (ending_of c.run_get.result.status) (g.K.Sink.written c.args.sink.now) (g.K.Sink.written c.run_get.new.sink) ends.output) (rw c.as_slice.ensures at c.run_get.ensures.ends))
+returns-in-Ok-Get-clause-output g c = run-output g.N.Texts.store g.N.Nodes.count_of (run_limits c.args.limits.now) c.args.words.now (g.S.Source.left c.args.source.now) (Some (get c.in-Ok-Get.id.0 c.in-Ok-Get.key)) (λ input. live_behind (script_outcome (get_script (run_limits c.args.limits.now) c.in-Ok-Get.id.0 c.in-Ok-Get.key) input))
+    (command_read c.args.words.now c.read_command.result (Get c.in-Ok-Get.id c.in-Ok-Get.key) (c.in-Ok-Get.is ∙ ap Ok c.in-Ok-Get.field-0-is) c.read_command.ensures.ok) (λ input. refl)
+    c.args.nodes c.run_request.result.nodes (g.K.Sink.written c.args.sink.now) (g.K.Sink.written c.run_request.new.sink) c.run_request.result.status c.run_request.ensures.ends
 
 pub returns-in-Ok-Get-clause-status : goal.returns-in-Ok-Get-clause-status
-returns-in-Ok-Get-clause-status g c = by_command (λ outcome. HasOneEnding outcome.IsOutput (ending_of c.run_get.result.status)) (run_limits c.args.limits.now) c.args.words.now (g.S.Source.left c.args.source.now) (Some (get c.in-Ok-Get.id.0 c.in-Ok-Get.key))
-    (command_read c.args.words.now c.read_command.result (Get c.in-Ok-Get.id c.in-Ok-Get.key) (c.in-Ok-Get.is ∙ ap Ok c.in-Ok-Get.field-0-is) c.read_command.ensures.ok)
-    (by_input (g.S.Source.left c.args.source.now) (λ input. EndsRun g.N.Texts.store g.N.Nodes.count_of (live_behind (script_outcome (get_script (run_limits c.args.limits.now) c.in-Ok-Get.id.0 c.in-Ok-Get.key) input)) c.args.nodes c.run_get.result.nodes (g.K.Sink.written c.args.sink.now) (g.K.Sink.written c.run_get.new.sink) c.run_get.result.status)
-    (λ input. HasOneEnding (λ o. o ≡ (live_behind (script_outcome (get_script (run_limits c.args.limits.now) c.in-Ok-Get.id.0 c.in-Ok-Get.key) input)).output) (ending_of c.run_get.result.status)) (λ input ends. has_alone (live_behind (script_outcome (get_script (run_limits c.args.limits.now) c.in-Ok-Get.id.0 c.in-Ok-Get.key) input)).output (ending_of c.run_get.result.status) ends.ending) (rw c.as_slice.ensures at c.run_get.ensures.ends))
+returns-in-Ok-Get-clause-status g c = run-status g.N.Texts.store g.N.Nodes.count_of (run_limits c.args.limits.now) c.args.words.now (g.S.Source.left c.args.source.now) (Some (get c.in-Ok-Get.id.0 c.in-Ok-Get.key)) (λ input. live_behind (script_outcome (get_script (run_limits c.args.limits.now) c.in-Ok-Get.id.0 c.in-Ok-Get.key) input))
+    (command_read c.args.words.now c.read_command.result (Get c.in-Ok-Get.id c.in-Ok-Get.key) (c.in-Ok-Get.is ∙ ap Ok c.in-Ok-Get.field-0-is) c.read_command.ensures.ok) (λ input. refl)
+    c.args.nodes c.run_request.result.nodes (g.K.Sink.written c.args.sink.now) (g.K.Sink.written c.run_request.new.sink) c.run_request.result.status c.run_request.ensures.ends
 
 pub returns-in-Ok-Get-clause-counts : goal.returns-in-Ok-Get-clause-counts
-returns-in-Ok-Get-clause-counts g c = λ other another. by_command (λ outcome. IfSettled c.run_get.result.status (HoldsBlocks (g.N.Texts.store.texts c.run_get.result.nodes) (g.N.Nodes.count_of c.run_get.result.nodes) outcome.left)) (run_limits c.args.limits.now) c.args.words.now (g.S.Source.left c.args.source.now) (Some (get c.in-Ok-Get.id.0 c.in-Ok-Get.key))
-    (command_read c.args.words.now c.read_command.result (Get c.in-Ok-Get.id c.in-Ok-Get.key) (c.in-Ok-Get.is ∙ ap Ok c.in-Ok-Get.field-0-is) c.read_command.ensures.ok)
-    (by_input (g.S.Source.left c.args.source.now) (λ input. EndsRun g.N.Texts.store g.N.Nodes.count_of (live_behind (script_outcome (get_script (run_limits c.args.limits.now) c.in-Ok-Get.id.0 c.in-Ok-Get.key) input)) c.args.nodes c.run_get.result.nodes (g.K.Sink.written c.args.sink.now) (g.K.Sink.written c.run_get.new.sink) c.run_get.result.status)
-    (λ input. IfSettled c.run_get.result.status (HoldsBlocks (g.N.Texts.store.texts c.run_get.result.nodes) (g.N.Nodes.count_of c.run_get.result.nodes) (live_behind (script_outcome (get_script (run_limits c.args.limits.now) c.in-Ok-Get.id.0 c.in-Ok-Get.key) input)).left)) (λ input ends. ends.counts) (rw c.as_slice.ensures at c.run_get.ensures.ends))
+returns-in-Ok-Get-clause-counts g c = λ other another. run-counts g.N.Texts.store g.N.Nodes.count_of (run_limits c.args.limits.now) c.args.words.now (g.S.Source.left c.args.source.now) (Some (get c.in-Ok-Get.id.0 c.in-Ok-Get.key)) (λ input. live_behind (script_outcome (get_script (run_limits c.args.limits.now) c.in-Ok-Get.id.0 c.in-Ok-Get.key) input))
+    (command_read c.args.words.now c.read_command.result (Get c.in-Ok-Get.id c.in-Ok-Get.key) (c.in-Ok-Get.is ∙ ap Ok c.in-Ok-Get.field-0-is) c.read_command.ensures.ok) (λ input. refl)
+    c.args.nodes c.run_request.result.nodes (g.K.Sink.written c.args.sink.now) (g.K.Sink.written c.run_request.new.sink) c.run_request.result.status c.run_request.ensures.ends
 
 pub returns-in-Ok-Get-clause-loads : goal.returns-in-Ok-Get-clause-loads
-returns-in-Ok-Get-clause-loads g c = by_command (λ outcome. CountsLoads (run_ended c.run_get.result.status) (g.N.Texts.store.loads c.args.nodes) (g.N.Texts.store.loads c.run_get.result.nodes) outcome.loaded) (run_limits c.args.limits.now) c.args.words.now (g.S.Source.left c.args.source.now) (Some (get c.in-Ok-Get.id.0 c.in-Ok-Get.key))
-    (command_read c.args.words.now c.read_command.result (Get c.in-Ok-Get.id c.in-Ok-Get.key) (c.in-Ok-Get.is ∙ ap Ok c.in-Ok-Get.field-0-is) c.read_command.ensures.ok)
-    (by_input (g.S.Source.left c.args.source.now) (λ input. EndsRun g.N.Texts.store g.N.Nodes.count_of (live_behind (script_outcome (get_script (run_limits c.args.limits.now) c.in-Ok-Get.id.0 c.in-Ok-Get.key) input)) c.args.nodes c.run_get.result.nodes (g.K.Sink.written c.args.sink.now) (g.K.Sink.written c.run_get.new.sink) c.run_get.result.status)
-    (λ input. CountsLoads (run_ended c.run_get.result.status) (g.N.Texts.store.loads c.args.nodes) (g.N.Texts.store.loads c.run_get.result.nodes) (live_behind (script_outcome (get_script (run_limits c.args.limits.now) c.in-Ok-Get.id.0 c.in-Ok-Get.key) input)).loaded) (λ input ends. ends.loads) (rw c.as_slice.ensures at c.run_get.ensures.ends))
+returns-in-Ok-Get-clause-loads g c = run-loads g.N.Texts.store g.N.Nodes.count_of (run_limits c.args.limits.now) c.args.words.now (g.S.Source.left c.args.source.now) (Some (get c.in-Ok-Get.id.0 c.in-Ok-Get.key)) (λ input. live_behind (script_outcome (get_script (run_limits c.args.limits.now) c.in-Ok-Get.id.0 c.in-Ok-Get.key) input))
+    (command_read c.args.words.now c.read_command.result (Get c.in-Ok-Get.id c.in-Ok-Get.key) (c.in-Ok-Get.is ∙ ap Ok c.in-Ok-Get.field-0-is) c.read_command.ensures.ok) (λ input. refl)
+    c.args.nodes c.run_request.result.nodes (g.K.Sink.written c.args.sink.now) (g.K.Sink.written c.run_request.new.sink) c.run_request.result.status c.run_request.ensures.ends
 
 pub returns-in-Ok-Get-clause-root_untouched : goal.returns-in-Ok-Get-clause-root_untouched
 returns-in-Ok-Get-clause-root_untouched g c = λ asked. let other = sym asked ∙ command_read c.args.words.now c.read_command.result (Get c.in-Ok-Get.id c.in-Ok-Get.key) (c.in-Ok-Get.is ∙ ap Ok c.in-Ok-Get.field-0-is) c.read_command.ensures.ok in absurd (cc other)
@@ -98,6 +93,50 @@ returns-in-Ok-Get-clause-root_source_faults g c = λ asked. let other = sym aske
 
 pub returns-in-Ok-Get-clause-replay_source_faults : goal.returns-in-Ok-Get-clause-replay_source_faults
 returns-in-Ok-Get-clause-replay_source_faults g c = λ asked. let other = sym asked ∙ command_read c.args.words.now c.read_command.result (Get c.in-Ok-Get.id c.in-Ok-Get.key) (c.in-Ok-Get.is ∙ ap Ok c.in-Ok-Get.field-0-is) c.read_command.ensures.ok in absurd (cc other)
+
+pub returns-in-Ok-Get-clause-full_changes : goal.returns-in-Ok-Get-clause-full_changes
+returns-in-Ok-Get-clause-full_changes g c = λ id ops asked many. let other = sym asked ∙ command_read c.args.words.now c.read_command.result (Get c.in-Ok-Get.id c.in-Ok-Get.key) (c.in-Ok-Get.is ∙ ap Ok c.in-Ok-Get.field-0-is) c.read_command.ensures.ok in absurd (cc other)
+
+pub returns-in-Ok-Prove-clause-output : goal.returns-in-Ok-Prove-clause-output
+returns-in-Ok-Prove-clause-output g c = run-output g.N.Texts.store g.N.Nodes.count_of (run_limits c.args.limits.now) c.args.words.now (g.S.Source.left c.args.source.now) (Some (prove c.in-Ok-Prove.id.0 (map op c.in-Ok-Prove.ops))) (prove_outcome (run_limits c.args.limits.now) c.in-Ok-Prove.id.0 (map op c.in-Ok-Prove.ops))
+    (command_read c.args.words.now c.read_command.result (Prove c.in-Ok-Prove.id c.in-Ok-Prove.ops) (c.in-Ok-Prove.is ∙ ap Ok c.in-Ok-Prove.field-0-is) c.read_command.ensures.ok) (λ input. refl)
+    c.args.nodes c.run_prove.result.nodes (g.K.Sink.written c.args.sink.now) (g.K.Sink.written c.run_prove.new.sink) c.run_prove.result.status c.run_prove.ensures.ends
+
+pub returns-in-Ok-Prove-clause-status : goal.returns-in-Ok-Prove-clause-status
+returns-in-Ok-Prove-clause-status g c = run-status g.N.Texts.store g.N.Nodes.count_of (run_limits c.args.limits.now) c.args.words.now (g.S.Source.left c.args.source.now) (Some (prove c.in-Ok-Prove.id.0 (map op c.in-Ok-Prove.ops))) (prove_outcome (run_limits c.args.limits.now) c.in-Ok-Prove.id.0 (map op c.in-Ok-Prove.ops))
+    (command_read c.args.words.now c.read_command.result (Prove c.in-Ok-Prove.id c.in-Ok-Prove.ops) (c.in-Ok-Prove.is ∙ ap Ok c.in-Ok-Prove.field-0-is) c.read_command.ensures.ok) (λ input. refl)
+    c.args.nodes c.run_prove.result.nodes (g.K.Sink.written c.args.sink.now) (g.K.Sink.written c.run_prove.new.sink) c.run_prove.result.status c.run_prove.ensures.ends
+
+pub returns-in-Ok-Prove-clause-counts : goal.returns-in-Ok-Prove-clause-counts
+returns-in-Ok-Prove-clause-counts g c = λ other another. run-counts g.N.Texts.store g.N.Nodes.count_of (run_limits c.args.limits.now) c.args.words.now (g.S.Source.left c.args.source.now) (Some (prove c.in-Ok-Prove.id.0 (map op c.in-Ok-Prove.ops))) (prove_outcome (run_limits c.args.limits.now) c.in-Ok-Prove.id.0 (map op c.in-Ok-Prove.ops))
+    (command_read c.args.words.now c.read_command.result (Prove c.in-Ok-Prove.id c.in-Ok-Prove.ops) (c.in-Ok-Prove.is ∙ ap Ok c.in-Ok-Prove.field-0-is) c.read_command.ensures.ok) (λ input. refl)
+    c.args.nodes c.run_prove.result.nodes (g.K.Sink.written c.args.sink.now) (g.K.Sink.written c.run_prove.new.sink) c.run_prove.result.status c.run_prove.ensures.ends
+
+pub returns-in-Ok-Prove-clause-loads : goal.returns-in-Ok-Prove-clause-loads
+returns-in-Ok-Prove-clause-loads g c = run-loads g.N.Texts.store g.N.Nodes.count_of (run_limits c.args.limits.now) c.args.words.now (g.S.Source.left c.args.source.now) (Some (prove c.in-Ok-Prove.id.0 (map op c.in-Ok-Prove.ops))) (prove_outcome (run_limits c.args.limits.now) c.in-Ok-Prove.id.0 (map op c.in-Ok-Prove.ops))
+    (command_read c.args.words.now c.read_command.result (Prove c.in-Ok-Prove.id c.in-Ok-Prove.ops) (c.in-Ok-Prove.is ∙ ap Ok c.in-Ok-Prove.field-0-is) c.read_command.ensures.ok) (λ input. refl)
+    c.args.nodes c.run_prove.result.nodes (g.K.Sink.written c.args.sink.now) (g.K.Sink.written c.run_prove.new.sink) c.run_prove.result.status c.run_prove.ensures.ends
+
+pub returns-in-Ok-Prove-clause-root_untouched : goal.returns-in-Ok-Prove-clause-root_untouched
+returns-in-Ok-Prove-clause-root_untouched g c = λ asked. let other = sym asked ∙ command_read c.args.words.now c.read_command.result (Prove c.in-Ok-Prove.id c.in-Ok-Prove.ops) (c.in-Ok-Prove.is ∙ ap Ok c.in-Ok-Prove.field-0-is) c.read_command.ensures.ok in absurd (cc other)
+
+pub returns-in-Ok-Prove-clause-replay_untouched : goal.returns-in-Ok-Prove-clause-replay_untouched
+returns-in-Ok-Prove-clause-replay_untouched g c = λ asked. let other = sym asked ∙ command_read c.args.words.now c.read_command.result (Prove c.in-Ok-Prove.id c.in-Ok-Prove.ops) (c.in-Ok-Prove.is ∙ ap Ok c.in-Ok-Prove.field-0-is) c.read_command.ensures.ok in absurd (cc other)
+
+pub returns-in-Ok-Prove-clause-root_no_store_fault : goal.returns-in-Ok-Prove-clause-root_no_store_fault
+returns-in-Ok-Prove-clause-root_no_store_fault g c = λ asked. let other = sym asked ∙ command_read c.args.words.now c.read_command.result (Prove c.in-Ok-Prove.id c.in-Ok-Prove.ops) (c.in-Ok-Prove.is ∙ ap Ok c.in-Ok-Prove.field-0-is) c.read_command.ensures.ok in absurd (cc other)
+
+pub returns-in-Ok-Prove-clause-replay_no_store_fault : goal.returns-in-Ok-Prove-clause-replay_no_store_fault
+returns-in-Ok-Prove-clause-replay_no_store_fault g c = λ asked. let other = sym asked ∙ command_read c.args.words.now c.read_command.result (Prove c.in-Ok-Prove.id c.in-Ok-Prove.ops) (c.in-Ok-Prove.is ∙ ap Ok c.in-Ok-Prove.field-0-is) c.read_command.ensures.ok in absurd (cc other)
+
+pub returns-in-Ok-Prove-clause-root_source_faults : goal.returns-in-Ok-Prove-clause-root_source_faults
+returns-in-Ok-Prove-clause-root_source_faults g c = λ asked. let other = sym asked ∙ command_read c.args.words.now c.read_command.result (Prove c.in-Ok-Prove.id c.in-Ok-Prove.ops) (c.in-Ok-Prove.is ∙ ap Ok c.in-Ok-Prove.field-0-is) c.read_command.ensures.ok in absurd (cc other)
+
+pub returns-in-Ok-Prove-clause-replay_source_faults : goal.returns-in-Ok-Prove-clause-replay_source_faults
+returns-in-Ok-Prove-clause-replay_source_faults g c = λ asked. let other = sym asked ∙ command_read c.args.words.now c.read_command.result (Prove c.in-Ok-Prove.id c.in-Ok-Prove.ops) (c.in-Ok-Prove.is ∙ ap Ok c.in-Ok-Prove.field-0-is) c.read_command.ensures.ok in absurd (cc other)
+
+pub returns-in-Ok-Prove-clause-full_changes : goal.returns-in-Ok-Prove-clause-full_changes
+returns-in-Ok-Prove-clause-full_changes g c = λ id ops asked many. c.run_prove.ensures.unread (same_ops (run_limits c.args.limits.now) id c.in-Ok-Prove.id.0 ops (map op c.in-Ok-Prove.ops) (sym asked ∙ command_read c.args.words.now c.read_command.result (Prove c.in-Ok-Prove.id c.in-Ok-Prove.ops) (c.in-Ok-Prove.is ∙ ap Ok c.in-Ok-Prove.field-0-is) c.read_command.ensures.ok) many)
 
 pub returns-in-Ok-Root-clause-output : goal.returns-in-Ok-Root-clause-output
 returns-in-Ok-Root-clause-output g c =
@@ -153,8 +192,14 @@ returns-in-Err-Bad-clause-root_source_faults g c = λ asked. let other = sym ask
 pub returns-in-Err-Bad-clause-replay_source_faults : goal.returns-in-Err-Bad-clause-replay_source_faults
 returns-in-Err-Bad-clause-replay_source_faults g c = λ asked. let other = sym asked ∙ c.in-Err-Bad.ensures.bad (ap Err c.in-Err-Bad.field-0-is) in absurd (cc other)
 
-pub run_get-requires-clause-key : goal.run_get-requires-clause-key
-run_get-requires-clause-key g c = rw c.as_slice.ensures ((got_key c.read_command.result c.in-Ok-Get.id c.in-Ok-Get.key (c.in-Ok-Get.is ∙ ap Ok c.in-Ok-Get.field-0-is) c.read_command.ensures.within).short)
+pub run_request-requires-clause-request : goal.run_request-requires-clause-request
+run_request-requires-clause-request g c = (got_key c.read_command.result c.in-Ok-Get.id c.in-Ok-Get.key (c.in-Ok-Get.is ∙ ap Ok c.in-Ok-Get.field-0-is) c.read_command.ensures.within).short
+
+pub run_prove-requires-clause-each : goal.run_prove-requires-clause-each
+run_prove-requires-clause-each g c = (asked_ops c.read_command.result c.in-Ok-Prove.id c.in-Ok-Prove.ops (c.in-Ok-Prove.is ∙ ap Ok c.in-Ok-Prove.field-0-is) c.read_command.ensures.within).0
+
+pub run_prove-requires-clause-few : goal.run_prove-requires-clause-few
+run_prove-requires-clause-few g c = few_asked c.in-Ok-Prove.ops (asked_ops c.read_command.result c.in-Ok-Prove.id c.in-Ok-Prove.ops (c.in-Ok-Prove.is ∙ ap Ok c.in-Ok-Prove.field-0-is) c.read_command.ensures.within).2
 
 pub returns-in-Ok-Replay-clause-output : goal.returns-in-Ok-Replay-clause-output
 returns-in-Ok-Replay-clause-output g c =
@@ -174,3 +219,12 @@ returns-in-Ok-Replay-clause-loads g c =
 
 pub returns-in-Ok-Replay-clause-store_faults : goal.returns-in-Ok-Replay-clause-store_faults
 returns-in-Ok-Replay-clause-store_faults g c = store_same c.run_replay.result (g.N.Texts.store.faults c.args.nodes) c.run_replay.ensures.no_store_fault
+
+pub returns-in-Ok-Root-clause-full_changes : goal.returns-in-Ok-Root-clause-full_changes
+returns-in-Ok-Root-clause-full_changes g c = λ id ops asked many. let other = sym asked ∙ command_read c.args.words.now c.read_command.result Root (c.in-Ok-Root.is ∙ ap Ok c.in-Ok-Root.field-0-is) c.read_command.ensures.ok in absurd (cc other)
+
+pub returns-in-Ok-Replay-clause-full_changes : goal.returns-in-Ok-Replay-clause-full_changes
+returns-in-Ok-Replay-clause-full_changes g c = λ id ops asked many. let other = sym asked ∙ command_read c.args.words.now c.read_command.result Replay (c.in-Ok-Replay.is ∙ ap Ok c.in-Ok-Replay.field-0-is) c.read_command.ensures.ok in absurd (cc other)
+
+pub returns-in-Err-Bad-clause-full_changes : goal.returns-in-Err-Bad-clause-full_changes
+returns-in-Err-Bad-clause-full_changes g c = λ id ops asked many. let other = sym asked ∙ c.in-Err-Bad.ensures.bad (ap Err c.in-Err-Bad.field-0-is) in absurd (cc other)
