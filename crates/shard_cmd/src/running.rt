@@ -67,7 +67,7 @@ pub fn run<S: Source, K: Sink, N: Nodes>(
     ensures replay_untouched { command_of words.now ≡ Some replay → result.nodes ≡ nodes }
     ensures replay_no_store_fault { command_of words.now ≡ Some replay → result.status ≢ Status.StoreFault }
 
-    // Where `prove` changes too many keys, nothing is read and no call is made on the store.
+    // Where `prove` changes too many keys nothing is read, and the store is as it came.
     ensures full_changes { (id : List ℕ) (ops : List Op) → command_of words.now ≡ Some (prove id ops) → changes_too_many (run_limits limits.now) ops ≡ true
         → (source.new ≡ source.old) × (result.nodes ≡ nodes) }
 

@@ -1,5 +1,5 @@
 -- A place where one key ends, and nothing goes on.
-use Rattle.std.proofs.Common.{◌≡◌, true, ℕ, ◌≤◌, List, [], ◌∷◌, length, drop, Option, None, Some, refl, sym, ◌∙◌, ap, subst, arith}
+use Rattle.std.proofs.Common.{◌≡◌, true, ℕ, ◌≤◌, List, [], ◌∷◌, length, drop, Option, None, Some, Ok, refl, sym, ◌∙◌, ap, subst, arith}
 use Rattle.std.specs.Prelude.{IfSome}
 use Rattle.std.proofs.lemmas.Bool.{false≢true}
 use Rattle.std.proofs.lemmas.List.{drop_all}
@@ -17,6 +17,8 @@ use Rattle.update_model.specs.Joins.{is_there, joint}
 use Rattle.update_model.specs.Updates.{Outcome, appearing, disappearing, fork_outcome, ref_after, value_lost, value_made}
 use Rattle.trie_update.specs.declared.ledger.Ledger.{Ledger}
 use Rattle.trie_update.specs.declared.updating.Placed.{Placed}
+use Rattle.text_store.specs.Store.{Store}
+use Rattle.trie_update.specs.Carries.{Carries}
 use Rattle.trie_update.specs.Accounts.{GrowsBy, IsNamed}
 use Rattle.trie_update.specs.Alone.{Ends, ends_by}
 use Rattle.trie_update.specs.declared.old.Old.{Old}
@@ -25,6 +27,7 @@ use Rattle.trie_update.specs.ChangesAt.{AreChangesAt, Lent, changes_at, value_le
 use Rattle.trie_update.specs.Places.{TopKeeps, old_past, top_stated, top_visits}
 use Rattle.trie_update.specs.Placed.{IsPlaced}
 use Rattle.trie_update.specs.Subs.{childless, top_of_sub}
+use Rattle.trie_update.proofs.Carrying.{carries-none}
 use Rattle.trie_update.proofs.Turning.{appears, disappears}
 
 -- ---- the one change
@@ -47,12 +50,16 @@ ends-past count (Extension path child used) h = absurd (false≢true h)
 
 -- ---- what is visited, and what it keeps to
 
-pub ends-visits : (below : Seen) (top : Top) (changes : List Change) → Ends top → top_visits below top changes ≡ no_visits
+ends-visits : (below : Seen) (top : Top) (changes : List Change) → Ends top → top_visits below top changes ≡ no_visits
 unfolding top_visits
 ends-visits below empty changes h = refl
 ends-visits below (leaf path ref) changes h = refl
 ends-visits below (branch digest used) changes h = absurd h
 ends-visits below (extension path child used) changes h = absurd h
+
+-- so it is carried out over a store without a call
+pub ends-carries : {S : Type 0} (store : Store S) → ((a : S) → store.alike a a) → (now : S) (below : Seen) (top : Top) (changes : List Change) → Ends top → Carries {X = ℕ} store now now (top_visits below top changes) (Ok 0)
+ends-carries store itself now below top changes h = subst (λ v. Carries {X = ℕ} store now now v (Ok 0)) (sym (ends-visits below top changes h)) (carries-none store {X = ℕ} now 0 (itself now))
 
 ends-stated : (below : Seen) (top : Top) (changes : List Change) → Ends top → top_stated below top changes ≡ 0
 unfolding top_stated

@@ -19,7 +19,7 @@ use Rattle.trie_update.specs.declared.updating.Placed.{Placed}
 use Rattle.std.proofs.lemmas.Result.{IfOk-weaker}
 use Rattle.batch_model.specs.Changes.{Change, most_changes}
 use Rattle.trie_update.proofs.PathCalls.{if_ok-both, laid-fork, led-keeps, led-none, led-outcome, led-some, led-stated, led-visits, path-fits, path-keeps, path-placed, path-visits, reaches-begin, some-lent}
-use Rattle.trie_update.proofs.Alone.{ends-keeps, ends-past, ends-placed, ends-visits}
+use Rattle.trie_update.proofs.Alone.{ends-carries, ends-keeps, ends-past, ends-placed}
 use Rattle.trie_update.proofs.Below.{below-changes_at}
 use Rattle.trie_update.proofs.ForkCalls.{former-past, places-visits, fork-end-can, fork-end-placed, fork-end-keeps}
 use Rattle.byte_model.specs.PackedPath.{longest_path}
@@ -306,57 +306,27 @@ at_fork-value_alone-requires-clause-room g t c = let room = c.requires.room in l
 
 pub at_fork-returns-in_err-only-clause-carries : goal.at_fork-returns-in_err-only-clause-carries
 at_fork-returns-in_err-only-clause-carries g t c =
-    let ends = ends-past c.args.shared c.args.old.now (sym c.if-ends.ensures) in
     let store = g.T.Texts.store in
     let now = c.args.store.now in
-    let stood = c.args.old.now in
-    let below = seen_past (store.texts now) c.args.depth c.args.shared stood in
-    let top = old_past c.args.shared stood in
-    let cs = changes_at c.args.depth c.args.changes.now in
-    let whole = top_visits below top cs in
-    let none = carries-none store {X = ℕ} now 0 (g.met.T.Texts.alike_itself now) in
-    let carried = subst (λ v. Carries {X = ℕ} store now now v (Ok 0)) (sym (ends-visits below top cs ends)) none in
-    carries-passed store {X = Placed} {Y = Placed} now now whole NoMemory c.from_residual.result
-    (subst (λ e. IsErrAnd c.from_residual.result (λ given. given ≡ e)) c.in_err-only.ensures.error c.from_residual.ensures.1)
-    (carries-late store {X = ℕ} {Y = Placed} now now whole 0 carried)
+    let carried = ends-carries store g.met.T.Texts.alike_itself now (seen_past (store.texts now) c.args.depth c.args.shared c.args.old.now) (old_past c.args.shared c.args.old.now) (changes_at c.args.depth c.args.changes.now) (ends-past c.args.shared c.args.old.now (sym c.if-ends.ensures)) in
+    carries-passed store {X = Placed} {Y = Placed} now now _ NoMemory c.from_residual.result (subst (λ e. IsErrAnd c.from_residual.result (λ given. given ≡ e)) c.in_err-only.ensures.error c.from_residual.ensures.1) (carries-late store {X = ℕ} {Y = Placed} now now _ 0 carried)
 
 pub at_fork-returns-in-Some-clause-carries : goal.at_fork-returns-in-Some-clause-carries
 at_fork-returns-in-Some-clause-carries g t c =
-    let ends = ends-past c.args.shared c.args.old.now (sym c.if-ends.ensures) in
     let store = g.T.Texts.store in
     let now = c.args.store.now in
-    let stood = c.args.old.now in
-    let below = seen_past (store.texts now) c.args.depth c.args.shared stood in
-    let top = old_past c.args.shared stood in
-    let cs = changes_at c.args.depth c.args.changes.now in
-    let whole = top_visits below top cs in
-    let none = carries-none store {X = ℕ} now 0 (g.met.T.Texts.alike_itself now) in
-    let carried = subst (λ v. Carries {X = ℕ} store now now v (Ok 0)) (sym (ends-visits below top cs ends)) none in
-    carries-ok store {X = ℕ} {Y = Placed} now now whole 0 _ carried
+    let carried = ends-carries store g.met.T.Texts.alike_itself now (seen_past (store.texts now) c.args.depth c.args.shared c.args.old.now) (old_past c.args.shared c.args.old.now) (changes_at c.args.depth c.args.changes.now) (ends-past c.args.shared c.args.old.now (sym c.if-ends.ensures)) in
+    carries-ok store {X = ℕ} {Y = Placed} now now _ 0 _ carried
 
 pub at_fork-returns-in-Some-clause-placed : goal.at_fork-returns-in-Some-clause-placed
 at_fork-returns-in-Some-clause-placed g t c =
-    let ends = ends-past c.args.shared c.args.old.now (sym c.if-ends.ensures) in
-    let store = g.T.Texts.store in
-    let now = c.args.store.now in
-    let stood = c.args.old.now in
-    let below = seen_past (store.texts now) c.args.depth c.args.shared stood in
-    let top = old_past c.args.shared stood in
-    let cs = changes_at c.args.depth c.args.changes.now in
-    let same = ap (option_map value_of) c.value_at-value.ensures ∙ former-past c.args.shared stood c.requires.reaches in
-    ends-placed (laid (λ cs. updated below cs)) below top cs _ (length c.args.changes.now) _ c.args.ledger.now c.value_alone.new.ledger ends c.in-Some.ensures.lone (length-changes_at c.args.depth c.args.changes.now) same
+    let below = seen_past (g.T.Texts.store.texts c.args.store.now) c.args.depth c.args.shared c.args.old.now in
+    let same = ap (option_map value_of) c.value_at-value.ensures ∙ former-past c.args.shared c.args.old.now c.requires.reaches in
+    ends-placed (laid (λ cs. updated below cs)) below (old_past c.args.shared c.args.old.now) (changes_at c.args.depth c.args.changes.now) _ (length c.args.changes.now) _ c.args.ledger.now c.value_alone.new.ledger (ends-past c.args.shared c.args.old.now (sym c.if-ends.ensures)) c.in-Some.ensures.lone (length-changes_at c.args.depth c.args.changes.now) same
     (record { sub = c.in_ok-only.only; stated = 0 }) c.in_ok-only.ensures.top refl c.in_ok-only.ensures.grows c.in_ok-only.ensures.names
 
 pub at_fork-returns-in-Some-clause-keeps : goal.at_fork-returns-in-Some-clause-keeps
-at_fork-returns-in-Some-clause-keeps g t c =
-    let ends = ends-past c.args.shared c.args.old.now (sym c.if-ends.ensures) in
-    let store = g.T.Texts.store in
-    let now = c.args.store.now in
-    let stood = c.args.old.now in
-    let below = seen_past (store.texts now) c.args.depth c.args.shared stood in
-    let top = old_past c.args.shared stood in
-    let cs = changes_at c.args.depth c.args.changes.now in
-    ends-keeps c.args.depth below top cs ends
+at_fork-returns-in-Some-clause-keeps g t c = ends-keeps c.args.depth (seen_past (g.T.Texts.store.texts c.args.store.now) c.args.depth c.args.shared c.args.old.now) (old_past c.args.shared c.args.old.now) (changes_at c.args.depth c.args.changes.now) (ends-past c.args.shared c.args.old.now (sym c.if-ends.ensures))
 
 pub at_fork-returns-in_err-left-clause-carries : goal.at_fork-returns-in_err-left-clause-carries
 at_fork-returns-in_err-left-clause-carries g t c =
