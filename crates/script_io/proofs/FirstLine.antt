@@ -1,5 +1,5 @@
 -- The first line of bytes of which some are pending and the others are left in the source.
-use Rattle.std.proofs.Common.{◌≡◌, ◌≢◌, ℕ, zero, suc, ◌+◌, ◌-◌, ◌<◌, ◌≤◌, Bool, true, false, not, cond, List, [], ◌∷◌, ◌++◌, length, take, drop, Option, Some, None, Result, Ok, Err, IfSome, IfOk, IfErr, refl, sym, ap, subst, ◌∙◌, arith}
+use Rattle.std.proofs.Common.{◌≡◌, ◌≢◌, ℕ, suc, ◌+◌, ◌-◌, ◌<◌, ◌≤◌, Bool, true, false, not, cond, List, [], ◌∷◌, ◌++◌, length, take, drop, Option, Some, None, Result, Ok, Err, IfSome, IfOk, IfErr, refl, sym, ap, subst, ◌∙◌, arith}
 use Rattle.std.specs.Prelude.{position}
 use Rattle.std.specs.Option.{option_map}
 use Rattle.std.proofs.lemmas.Bool.{lt-ltb, le-ltb}
@@ -12,7 +12,7 @@ use Rattle.script_io.specs.declared.line_error.LineError.TheVariants.{Long, Past
 use Rattle.script_io.specs.declared.window.LineSpan.{LineSpan}
 use Rattle.script_io.specs.LinesStates.{IsLeft, Extends, IsOpen, IsOpenAt, ended_by}
 use Rattle.script_io.specs.Windows.{feed_index, Takes, IsFirst, IsBounded, Finds, error_of, judged_by, judgement_of}
-use Rattle.script_io.proofs.Cuts.{past_end, at_position}
+use Rattle.script_io.proofs.Cuts.{past_end, at_position, position_or_len-le, position_or_len-drop}
 
 -- a line of so many bytes, with a line feed and without
 abbrev pub fed : ℕ → LineSpan
@@ -23,13 +23,8 @@ unfed n = record { length = n; feed = 0 }
 
 -- ---- where the first line feed is
 
-counted-le : (b : Bool) (n m : ℕ) → n ≤ m → cond b (1 + n) 0 ≤ 1 + m
-counted-le true n m h = omega arith
-counted-le false n m h = omega arith
-
 feed_index-le : (bytes : List ℕ) → feed_index bytes ≤ length bytes
-feed_index-le [] = omega arith
-feed_index-le (x ∷ bytes) = let h = counted-le (not (is_line_feed x)) (feed_index bytes) (length bytes) (feed_index-le bytes) in omega (arith, h)
+feed_index-le bytes = position_or_len-le is_line_feed bytes
 
 fed-step : (b : Bool) (n k m : ℕ) → (n < m → k ≡ n) → cond b (1 + n) 0 < suc m → cond b (1 + k) 0 ≡ cond b (1 + n) 0
 fed-step true n k m f h = ap (λ i. 1 + i) (f (omega arith))
@@ -47,15 +42,6 @@ feed_index-unfed : (p q : List ℕ) → length p ≤ feed_index p → feed_index
 feed_index-unfed [] q h = omega arith
 feed_index-unfed (x ∷ p) q h = unfed-step (not (is_line_feed x)) (feed_index p) (feed_index (p ++ q)) (length p) (feed_index q) (feed_index-unfed p q) h
 
-drop-step : (b : Bool) (n k i : ℕ) → (i ≤ n → n ≡ i + k) → suc i ≤ cond b (1 + n) 0 → cond b (1 + n) 0 ≡ suc i + k
-drop-step true n k i f h = omega (arith, f (omega arith))
-drop-step false n k i f h = absurd (omega arith)
-
-feed_index-drop : (n : ℕ) (bytes : List ℕ) → n ≤ feed_index bytes → feed_index bytes ≡ n + feed_index (drop n bytes)
-feed_index-drop zero bytes h = omega arith
-feed_index-drop (suc n) [] h = absurd (omega arith)
-feed_index-drop (suc n) (x ∷ bytes) h = drop-step (not (is_line_feed x)) (feed_index bytes) (feed_index (drop n bytes)) n (feed_index-drop n bytes) h
-
 -- what a search behind the bytes that were looked at finds
 pub scanned-le : (scanned : ℕ) (pending : List ℕ) → scanned ≤ feed_index pending → scanned ≤ length pending
 scanned-le scanned pending h = omega (arith, feed_index-le pending)
@@ -63,12 +49,12 @@ scanned-le scanned pending h = omega (arith, feed_index-le pending)
 pub no_feed_behind : (scanned : ℕ) (pending rest : List ℕ) → rest ≡ drop scanned pending → scanned ≤ feed_index pending → position is_line_feed rest ≡ None → length pending ≤ feed_index pending
 no_feed_behind scanned pending rest e h none =
     let past = past_end is_line_feed (drop scanned pending) (ap (position is_line_feed) (sym e) ∙ none) in
-    omega (arith, feed_index-drop scanned pending h, length-drop scanned pending)
+    omega (arith, position_or_len-drop is_line_feed scanned pending h, length-drop scanned pending)
 
 pub feed_behind : (scanned i : ℕ) (pending rest : List ℕ) → rest ≡ drop scanned pending → scanned ≤ feed_index pending → position is_line_feed rest ≡ Some i → (scanned + i < length pending) × (feed_index pending ≡ scanned + i)
 feed_behind scanned i pending rest e h some =
     let at = at_position is_line_feed (drop scanned pending) i (ap (position is_line_feed) (sym e) ∙ some) in
-    (omega (arith, at.1, length-drop scanned pending), feed_index-drop scanned pending h ∙ ap (λ n. scanned + n) at.0)
+    (omega (arith, at.1, length-drop scanned pending), position_or_len-drop is_line_feed scanned pending h ∙ ap (λ n. scanned + n) at.0)
 
 -- ---- pending bytes that end the first line
 
