@@ -20,7 +20,8 @@ use Rattle.base_core.proofs.ByteMaps.{is_same-itself, same_from, is_same}
 use Rattle.text_store.specs.Store.{Digests}
 use Rattle.text_store.specs.Leaves.{with_all}
 use Rattle.partial_state.specs.Replays.{AreWithin}
-use Rattle.partial_state.specs.Recorders.{AreTexts, digests_of}
+use Rattle.partial_state.specs.NotedTexts.{digests_of}
+use Rattle.partial_state.specs.Recorders.{AreTexts}
 use Rattle.partial_state.proofs.Notes.{found-in}
 use Rattle.partial_state.proofs.Spares.{contains-all}
 

@@ -1,15 +1,18 @@
 -- The notes of loads, against the digests that are kept.
-use Rattle.std.proofs.Common.{◌≡◌, ◌≢◌, ℕ, true, false, cond, if◌then◌else◌, Result, Ok, Err, IfOk, List, [], ◌∷◌, map, Option, Some, None, Less, Equal, Greater, inl, inr, refl, sym, ap, subst, ◌∙◌}
-use Rattle.std.specs.Prelude.{IfSome, IsSomeAnd, is_some, Contains}
+use Rattle.std.proofs.Common.{◌≡◌, ◌≢◌, ℕ, Bool, true, false, cond, if◌then◌else◌, Result, Ok, Err, IfOk, List, [], ◌∷◌, map, Option, Some, None, Less, Equal, Greater, inl, inr, refl, sym, ap, subst, ◌∙◌}
+use Rattle.std.specs.Prelude.{nat_eq, OnOk, OnErr, IfSome, IsSomeAnd, is_some, Contains}
 use Rattle.std.specs.Cmp.{eq_by_cmp_equiv}
 use Rattle.std.proofs.lemmas.Map.Views.{list_any-from_Contains}
 use Rattle.std.specs.Borrow.{Bor}
 use Rattle.std.specs.Ordering.{nat_cmp}
 use Rattle.std.specs.Option.{option_copied}
-use Rattle.std.specs.Cmp.Lexicographic.{slice_cmp, nat_list_cmp_total}
+use Rattle.std.specs.Cmp.Lexicographic.{slice_cmp, nat_list_cmp_total, bytes_decides, pointwise}
 use Rattle.std.specs.FinMap.{get, empty, entries, entries-insert, get-insert, get-empty, contains_key-keys}
 use Rattle.std.specs.FinMap.Entries.{put, by_order}
+use Rattle.std.specs.List.{list_any}
 use Rattle.std.specs.List.Sorted.{IsStrictlySortedBy}
+use Rattle.std.specs.Result.{is_err}
+use Rattle.std.specs.HashSet.{HashSet, Updates}
 use Rattle.std.specs.FinSet as set
 use Rattle.std.specs.FinSet.{insert}
 use Rattle.std.proofs.lemmas.Map.Lookups.{exact_bytes}
@@ -18,12 +21,14 @@ use Rattle.sha2.specs.Sha256.{sha256}
 use Rattle.trie_model.specs.Root.{Table, NoClash, zero_digest}
 use Rattle.partial_model.specs.Texts.{SetOfTexts, with_text, texts_in}
 use Rattle.partial_model.proofs.Sets.{texts_in-set_of}
+use Rattle.base_core.specs.declared.hash.Digest.{Digest}
 use Rattle.base_core.proofs.ByteMaps.{order, is_same, same_from}
 use Rattle.text_store.specs.Store.{Digests, Store}
 use Rattle.text_store.specs.Loading.{IsNamed, Loaded, Keeps}
 use Rattle.text_store.proofs.Marks.{insert-again, insert-swap}
 use Rattle.partial_state.specs.declared.noting.Notes.{Notes}
-use Rattle.partial_state.specs.Recorders.{digests_of, noted_digests, kept_by, AreTexts, IsNoted, NotesLoad, noting_store}
+use Rattle.partial_state.specs.Recorders.{noted_digests, kept_by, AreTexts, IsNoted, NotesLoad, noting_store}
+use Rattle.partial_state.specs.NotedTexts.{digests_of, IsDigestOf, AreDigestsOf, IsPut}
 
 -- ---- the digests of one more text
 
@@ -43,6 +48,46 @@ put-digests (e ∷ es) t =
 pub digests-with_text : (set : SetOfTexts) (t : List ℕ) → digests_of (texts_in (with_text set t)) ≡ insert (digests_of (texts_in set)) (sha256 t)
 digests-with_text set t = ap (λ (es : List (List ℕ × Unit {0})). digests_of (texts es)) (entries-insert nat_list_cmp_total set t tt) ∙ put-digests (entries set) t
 
+digests-put : (old new : SetOfTexts) (t : List ℕ) → IsPut old new t → digests_of (texts_in new) ≡ insert (digests_of (texts_in old)) (sha256 t)
+digests-put old new t (inl put) = ap (λ (set : SetOfTexts). digests_of (texts_in set)) put ∙ digests-with_text old t
+digests-put old new t (inr held) = ap (λ (set : SetOfTexts). digests_of (texts_in set)) held.0 ∙ sym held.1
+
+-- ---- the digests under which texts were put in
+
+pub digests-more : (set : SetOfTexts) (digests : List Digest) (t : List ℕ) → AreDigestsOf set digests → AreDigestsOf (with_text set t) digests
+digests-more set digests t are digest among =
+    subst (λ (ds : Digests). insert ds digest.0 ≡ ds) (sym (digests-with_text set t))
+    (insert-swap (digests_of (texts_in set)) (sha256 t) digest.0 ∙ ap (λ (ds : Digests). insert ds (sha256 t)) (are digest among))
+
+digest-put : (set : SetOfTexts) (t : List ℕ) → IsDigestOf (with_text set t) (sha256 t)
+digest-put set t = subst (λ (ds : Digests). insert ds (sha256 t) ≡ ds) (sym (digests-with_text set t)) (insert-again (digests_of (texts_in set)) (sha256 t))
+
+-- whether a digest is among these
+abbrev among : List Digest → Digest → Bool
+among digests digest = list_any (λ d. pointwise nat_eq digest.0 d.0) digests
+
+digests-insert : (set : SetOfTexts) (old new : List Digest) (d : Digest) (t : List ℕ) → sha256 t ≡ d.0 → ((q : Digest) → among new q ≡ cond (pointwise nat_eq d.0 q.0) true (among old q)) → AreDigestsOf set old → AreDigestsOf (with_text set t) new
+digests-insert set old new d t named updates are digest there = go (pointwise nat_eq d.0 digest.0) refl (sym (updates digest) ∙ there)
+  where
+    go : (b : Bool) → pointwise nat_eq d.0 digest.0 ≡ b → cond b true (among old digest) ≡ true → IsDigestOf (with_text set t) digest.0
+    go true same e = subst (λ (q : List ℕ). IsDigestOf (with_text set t) q) (named ∙ (bytes_decides d.0 digest.0).0 same) (digest-put set t)
+    go false differ e = digests-more set old t are digest e
+
+-- where there is memory for the digest, and where there is none
+pub digests-inserted : {A E S : Type 0} (set : SetOfTexts) (old new : HashSet Digest S) (d : Digest) (t : List ℕ) → sha256 t ≡ d.0 → (r : Result A E) → OnOk r (Updates (λ (a b : Digest). pointwise nat_eq a.0 b.0) old new d true) → OnErr r (new.keys ≡ old.keys) → AreDigestsOf set old.keys → AreDigestsOf (with_text set t) new.keys
+digests-inserted set old new d t named (Ok a) updates same are = digests-insert set old.keys new.keys d t named updates.0 are
+digests-inserted set old new d t named (Err e) updates same are = subst (λ (ds : List Digest). AreDigestsOf (with_text set t) ds) (sym same) (digests-more set old.keys t are)
+
+-- ---- the notes, after their texts
+
+pub noted-put : {A E : Type 0} (old : Notes) (texts : SetOfTexts) (t : List ℕ) (r : Result A E) → is_err r ≡ false → OnOk r (IsPut old.texts texts t) → IsNoted old (record old { texts = texts }) t
+noted-put old texts t (Ok a) is put = inl (refl, put)
+noted-put old texts t (Err e) is put = cc
+
+pub noted-short : {A E : Type 0} (old : Notes) (texts : SetOfTexts) (t : List ℕ) (r : Result A E) → is_err r ≡ true → OnErr r (texts ≡ old.texts) → IsNoted old (record old { texts = texts; short = true }) t
+noted-short old texts t (Ok a) is same = cc
+noted-short old texts t (Err e) is same = inr (ap (λ (set : SetOfTexts). record old { texts = set; short = true }) same)
+
 -- ---- what a load leaves
 
 abbrev Kept : Notes → Notes → List ℕ → Type 0
@@ -50,10 +95,10 @@ Kept old new d = IfSome (kept_by new) (λ now. IsSomeAnd (kept_by old) (λ were.
 
 keeps-noted : (old new : Notes) (t d : List ℕ) → sha256 t ≡ d → IsNoted old new t → Kept old new d
 keeps-noted old new t d named (inl noted) =
-    subst (λ (n : Notes). Kept old n d) (sym noted)
-    (elim old.short as (λ b. IfSome (if b then None else Some (digests_of (texts_in (with_text old.texts t)))) (λ now. IsSomeAnd (if b then None else Some (digests_of (texts_in old.texts))) (λ were. now ≡ insert were d))) [
+    subst (λ (n : Notes). Kept old n d) (sym noted.0)
+    (elim old.short as (λ b. IfSome (if b then None else Some (digests_of (texts_in new.texts))) (λ now. IsSomeAnd (if b then None else Some (digests_of (texts_in old.texts))) (λ were. now ≡ insert were d))) [
       | true ↦ tt
-      | false ↦ digests-with_text old.texts t ∙ ap (insert (digests_of (texts_in old.texts))) named
+      | false ↦ digests-put old.texts new.texts t noted.1 ∙ ap (insert (digests_of (texts_in old.texts))) named
     ])
 keeps-noted old new t d named (inr short) = subst (λ (n : Notes). Kept old n d) (sym short) tt
 
@@ -70,10 +115,14 @@ are-with_text table set t held nonzero are = record {
   nonzero = of_with_text set t (λ u. sha256 u ≢ zero_digest) nonzero are.nonzero;
 }
 
+are-put : (table : Table) (old new : SetOfTexts) (t : List ℕ) → IsPut old new t → AreTexts table old → AreTexts table (with_text old t) → AreTexts table new
+are-put table old new t (inl put) were are = subst (λ (set : SetOfTexts). AreTexts table set) (sym put) are
+are-put table old new t (inr held) were are = subst (λ (set : SetOfTexts). AreTexts table set) (sym held.0) were
+
 are-noted : (table : Table) (old new : Notes) (t d : List ℕ) → IsNamed table → get table d ≡ Some t → IsNoted old new t → AreTexts table old.texts → AreTexts table new.texts
 are-noted table old new t d named found (inl noted) are =
     let is : sha256 t ≡ d = named.own d t found in
-    subst (λ (n : Notes). AreTexts table n.texts) (sym noted)
+    are-put table old.texts new.texts t noted.1 are
     (are-with_text table old.texts t (subst (λ (q : List ℕ). get table q ≡ Some t) (sym is) found) (λ zero. none-some t (sym named.nonzero ∙ subst (λ (q : List ℕ). get table q ≡ Some t) (sym is ∙ zero) found)) are)
 are-noted table old new t d named found (inr short) are = subst (λ (n : Notes). AreTexts table n.texts) (sym short) are
 

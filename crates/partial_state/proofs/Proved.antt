@@ -21,7 +21,8 @@ use Rattle.partial_state.specs.declared.prove_error.ProveError.{ProveError}
 use Rattle.partial_state.specs.declared.prove_error.ProveError.TheVariants.{Missing, Bad, Usage, Clash, Fault, NoMemory}
 use Rattle.partial_state.specs.Operations.{Operations}
 use Rattle.partial_state.specs.Replays.{AreApart, AreWithin, IsStopped}
-use Rattle.partial_state.specs.Recorders.{AreTexts, digests_of, noted_digests}
+use Rattle.partial_state.specs.NotedTexts.{digests_of}
+use Rattle.partial_state.specs.Recorders.{AreTexts, noted_digests}
 use Rattle.partial_state.specs.Proofs.{IsNoTest, IsProofOf, ProvesState}
 use Rattle.partial_state.proofs.Notes.{found-in}
 use Rattle.partial_state.proofs.Exactly.{noted-exactly}

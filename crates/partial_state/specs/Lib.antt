@@ -6,7 +6,8 @@ pub mod Operations
 pub mod Recordings
 -- what is answered where reads and a batch are carried out, and where a recording is replayed
 pub mod Replays
--- stores whose loads are noted
+-- texts that were noted, and stores whose loads are
+pub mod NotedTexts
 pub mod Recorders
 -- recordings that are made from a store
 pub mod Proofs

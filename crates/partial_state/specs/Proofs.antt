@@ -17,7 +17,7 @@ use Rattle.partial_state.specs.declared.prove_error.ProveError.{ProveError}
 use Rattle.partial_state.specs.declared.prove_error.ProveError.TheVariants.{Missing, Bad, Usage, Clash, Fault, NoMemory}
 use Rattle.partial_state.specs.Operations.{Operations}
 use Rattle.partial_state.specs.Replays.{AreApart, IsStopped}
-use Rattle.partial_state.specs.Recorders.{digests_of}
+use Rattle.partial_state.specs.NotedTexts.{digests_of}
 
 -- No test fails where reads and a batch are carried out, or a recording is made of them. Else the test that failed is told, or texts of the batch clash.
 abbrev pub AnswersProve : {X : Type 0} → Visits → Result X ProveError → Type 0

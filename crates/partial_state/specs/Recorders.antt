@@ -1,18 +1,13 @@
 -- What is told of a store whose loads are noted.
-use Rattle.std.specs.Prelude.{◌≡◌, ◌≢◌, ◌⊎◌, ℕ, true, List, [], ◌∷◌, Option, None, Some, Result, Ok, Err, if◌then◌else◌}
+use Rattle.std.specs.Prelude.{◌≡◌, ◌≢◌, ◌⊎◌, ℕ, true, List, Option, None, Some, Result, Ok, Err, if◌then◌else◌}
 use Rattle.std.specs.Borrow.{Bor, GName}
 use Rattle.std.specs.FinMap.{get}
-use Rattle.std.specs.FinSet.{empty, insert}
 use Rattle.sha2.specs.Sha256.{sha256}
 use Rattle.trie_model.specs.Root.{Table, zero_digest}
-use Rattle.partial_model.specs.Texts.{SetOfTexts, with_text, texts_in}
+use Rattle.partial_model.specs.Texts.{SetOfTexts, texts_in}
 use Rattle.text_store.specs.Store.{Digests, Store}
+use Rattle.partial_state.specs.NotedTexts.{digests_of, IsPut}
 use Rattle.partial_state.specs.declared.noting.Notes.{Notes}
-
--- the digests of some texts
-unfoldable pub digests_of : List (List ℕ) → Digests
-digests_of [] = empty
-digests_of (t ∷ ts) = insert (digests_of ts) (sha256 t)
 
 abbrev pub noted_digests : Notes → Digests
 noted_digests notes = digests_of (texts_in notes.texts)
@@ -28,7 +23,7 @@ pub record AreTexts (table : Table) (set : SetOfTexts) : Type 0 where
 
 -- A text is noted, or the notes are short from now on.
 abbrev pub IsNoted : Notes → Notes → List ℕ → Type 0
-IsNoted old new text = (new ≡ record old { texts = with_text old.texts text }) ⊎ (new ≡ record old { short = true })
+IsNoted old new text = ((new ≡ record old { texts = new.texts }) × IsPut old.texts new.texts text) ⊎ (new ≡ record old { short = true })
 
 -- what a load makes of the notes, by what it answers
 abbrev pub NotesLoad : {E : Type 0} → Notes → Notes → Result (Option (Bor (List ℕ))) E → Type 0

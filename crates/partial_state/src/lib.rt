@@ -6,6 +6,7 @@ mod answers;
 mod carrying;
 mod fields;
 mod laws;
+mod noted_texts;
 mod noting;
 mod ops;
 mod passing;

@@ -4,6 +4,7 @@ ghost use Rattle.std.specs.Prelude.{◌≡◌, IfOk, ⊤};
 ghost use Rattle.std.specs.Option.{option_copied};
 ghost use Rattle.std.specs.Borrow.{sem, follows_so};
 ghost use Rattle.std.specs.FinMap.{get};
+ghost use Rattle.sha2.specs.Sha256.{sha256};
 ghost use Rattle.trie_model.specs.Root.{NoClash};
 ghost use Rattle.partial_model.specs.Texts.{texts_in};
 ghost use Rattle.text_store.specs.Loading.{IsNamed, Loaded, NO_NAME};
@@ -11,24 +12,26 @@ ghost use Rattle.text_store.specs.PartialStates.{unread};
 ghost use Rattle.partial_state.specs.Recorders.{IsNoted, NotesLoad};
 ghost use Rattle.partial_state.specs.contracts.noting.Noting.{the_row};
 
+use crate::noted_texts::NotedTexts;
 use base_core::{Digest, Fault};
 use std::alloc::{AllocError, Global};
-use text_store::{PartialTexts, TextSet, Texts};
+use text_store::{PartialTexts, Texts};
 
 /// The texts that were loaded, and whether one is missing, since there was no memory for it.
 #[derive(Drop)]
 pub struct Notes {
-    pub(crate) texts: TextSet,
+    pub(crate) texts: NotedTexts,
     pub(crate) short: bool,
     pub(crate) alloc: Global,
 }
 
 impl Notes {
-    /// Notes a text.
-    fn put(&mut self, text: &[u8])
+    /// Notes a text that was loaded under its digest.
+    fn put(&mut self, d: &Digest, text: &[u8])
+        requires { sha256 text.now ≡ d.now.0 }
         ensures { IsNoted self.old self.new text.now }
     {
-        if self.texts.put(text).is_err() {
+        if self.texts.put(d, text).is_err() {
             self.short = true;
         }
     }
@@ -38,7 +41,7 @@ impl Notes {
         requires { NoClash (texts_in self.texts) }
         ensures { IfOk result (λ held. held ≡ unread (texts_in self.texts)) }
     {
-        PartialTexts::of_set(self.alloc, self.texts)
+        PartialTexts::of_set(self.alloc, self.texts.into_set())
     }
 }
 
@@ -60,7 +63,7 @@ fn load_noted<'s, T: Texts>(
 {
     match store.load(d) {
         Ok(Some(text)) => {
-            notes.put(text);
+            notes.put(d, text);
             Ok(Some(text))
         }
         Ok(None) => Ok(None),

@@ -5,10 +5,11 @@ ghost use Rattle.partial_model.specs.Texts.{texts_in};
 ghost use Rattle.text_store.specs.PartialStates.{unread};
 ghost use Rattle.partial_state.specs.Recorders.{store_behind, AreTexts};
 
+use crate::noted_texts::NotedTexts;
 use crate::noting::{Notes, Noting};
 use base_core::{Digest, Fault};
 use std::alloc::{AllocError, Global};
-use text_store::{PartialTexts, TextSet, Texts};
+use text_store::{PartialTexts, Texts};
 
 /// A store behind a reference.
 #[derive(Drop)]
@@ -49,7 +50,7 @@ impl<'a, T: Texts> Noting<StoreRef<'a, T>> {
         Noting {
             store: StoreRef { store },
             notes: Notes {
-                texts: TextSet::new(alloc),
+                texts: NotedTexts::new(alloc),
                 short: false,
                 alloc,
             },
