@@ -3,17 +3,20 @@
 
 ghost use Rattle.std.specs.Prelude.{◌≡◌, ◌≢◌, ◌↔◌, ℕ, ◌+◌, ◌≤◌, Bool, true, false, List, [], ◌∷◌, ◌++◌, length, map, codes, None, Some, IfSome};
 ghost use Rattle.std.specs.FinMap.{get, len};
-ghost use Rattle.std.specs.List.{list_all};
+ghost use Rattle.std.specs.List.{list_all, AllByRecursion};
 ghost use Rattle.script_model.specs.Lines as lines;
 ghost use Rattle.script_model.specs.Lines.{Event, block, head, pieces, first_line, first_feed, first_fault, behind_line, event_if};
 ghost use Rattle.script_model.specs.Words.{Op, command_of, replay};
-ghost use Rattle.trie_model.specs.State.{State};
+ghost use Rattle.byte_model.specs.Nibbles.{AreBytes};
+ghost use Rattle.trie_model.specs.State.{State, IsState};
 ghost use Rattle.trie_model.specs.Root as trie;
-ghost use Rattle.batch_model.specs.Changes.{Changes, after};
+ghost use Rattle.trie_model.specs.Root.{NoClash, texts_of};
+ghost use Rattle.batch_model.specs.Changes.{AreChanges, Changes, after};
 ghost use Rattle.partial_model.specs.Recording.{Recording};
 ghost use Rattle.recording_model.specs.Recorded.{recorded_texts};
 ghost use Rattle.fork_model.specs.Trees.{Header, BlockFault, block_fault, is_live};
 ghost use Rattle.fork_model.specs.States.{ForkState, tree_of_blocks, after_offer, after_head};
+ghost use Rattle.count_model.specs.Clashes.{made_clash};
 ghost use Rattle.count_model.specs.BlockEnds.{accepted, too_many, clashing, block_end};
 ghost use Rattle.count_model.specs.Loads.{Access, no_texts};
 ghost use Rattle.output_model.specs.Ends.{Output, RunLimits, clash_at, done};
@@ -24,7 +27,7 @@ ghost use Rattle.output_model.specs.Apply.{apply_script};
 ghost use Rattle.output_model.specs.Readings.{same_states, same_text};
 ghost use Rattle.output_model.specs.Output.{IsOutputOf};
 ghost use Rattle.output_model.specs.Replay.{IsReplay, IsOfState, replayed};
-ghost use Rattle.output_model.specs.Prove.{changes_in, reads_in};
+ghost use Rattle.output_model.specs.Prove.{changes_in, reads_in, recorded};
 ghost use Rattle.output_model.specs.Laws.{IfGoesOn, state_after, keeps_blocks, last_made, tells_block, IsTold};
 
 /// The first line of what is left of an input decides what becomes of it: whether it can be read and
@@ -109,4 +112,12 @@ pub fn last_operation_counts()
 pub fn replays_tell_the_state()
     ensures texts { (recording : Recording) (state : State) (output : Output) → IsReplay recording output → output.ending ≡ done → IsOfState recording state → recording.state ≡ recorded_texts state recording.reads recording.changes }
     ensures output { (recording : Recording) (state : State) (output : Output) → IsReplay recording output → output.ending ≡ done → IsOfState recording state → output ≡ replayed (map (get state) recording.reads) (trie.root (after state recording.changes)) }
+{}
+
+/// And the other way round: the recording of a state whose texts don't clash is replayed to its end, and
+/// what is written is what the state has, unless texts that the changes make clash, and then the least
+/// such clash is told.
+pub fn recordings_of_a_state_are_replayed()
+    ensures output { (state : State) (reads : List (List ℕ)) (changes : Changes) (output : Output) → IsState state → AllByRecursion AreBytes reads → AreChanges changes → NoClash (texts_of state) → made_clash state changes ≡ None → IsReplay (recorded state reads changes) output → output ≡ replayed (map (get state) reads) (trie.root (after state changes)) }
+    ensures clash { (state : State) (reads : List (List ℕ)) (changes : Changes) (digest : List ℕ) (output : Output) → IsState state → AllByRecursion AreBytes reads → AreChanges changes → NoClash (texts_of state) → made_clash state changes ≡ Some digest → IsReplay (recorded state reads changes) output → output ≡ clash_at digest }
 {}
