@@ -13,7 +13,6 @@ use Rattle.trie_update.specs.declared.errors.UpdateError.{UpdateError}
 use Rattle.trie_update.specs.declared.former.Former.{Former}
 use Rattle.trie_update.specs.declared.former.Former.TheVariants as former
 use Rattle.trie_update.specs.declared.joining.Child.{Child}
-use Rattle.trie_update.specs.declared.joining.Child.TheVariants as child
 use Rattle.trie_update.specs.declared.ledger.Ledger.{Ledger}
 use Rattle.trie_update.specs.declared.old.Old.{Old}
 use Rattle.trie_update.specs.declared.updating.Placed.{Placed}
@@ -22,7 +21,7 @@ use Rattle.trie_update.specs.Carries.{Carries}
 use Rattle.trie_update.specs.ChangesAt.{Lent, changes_at}
 use Rattle.trie_update.specs.Places.{Keeps, Place, PlaceKeeps, TopKeeps, old_past, place_of, place_outcome, place_visits, seen_past, top_stated, top_visits}
 use Rattle.trie_update.specs.Placed.{IsChild, IsPlaced, kid_before}
-use Rattle.trie_update.specs.Subs.{kid_of}
+use Rattle.trie_update.specs.Subs.{kid_of, top_of_sub}
 use Rattle.trie_update.proofs.Adding.{adds-none, adds-same}
 use Rattle.trie_update.proofs.PlaceFacts.{IsTouched, touched-child, touched-over, untouched-adds, untouched-keeps, untouched-kid, untouched-stated}
 use Rattle.trie_update.proofs.ChangesAt.{changes-some}
@@ -52,10 +51,10 @@ child-untouched table depth stood changes ledger new none is =
 -- ---- where some are
 
 module _ (depth : ℕ) (p : Place) (changes : List Change) (n : ℕ) (visits : Visits) (stated : ℕ) (outcome : Outcome) (touched : IsTouched p changes visits stated outcome) (long : length changes ≡ n) where
-  pub child-placed : (old new : Ledger) (placed : Placed) → IsPlaced outcome stated n old new placed → PlaceKeeps depth p changes → IsChild depth p changes old new (child.Known placed.sub, placed.stated)
-  child-placed old new placed is keeps = record {
-    kid = ap known is.top ∙ sym touched.kid_is;
-    stated = is.stated ∙ sym touched.stated_is;
+  pub child-placed : (old new : Ledger) (placed : Placed) → IsPlaced outcome stated n old new placed → PlaceKeeps depth p changes → (child : Child × ℕ) → kid_of child.0 ≡ known (top_of_sub placed.sub) → child.1 ≡ placed.stated → IsChild depth p changes old new child
+  child-placed old new placed is keeps child kid_is stated_is = record {
+    kid = kid_is ∙ ap known is.top ∙ sym touched.kid_is;
+    stated = stated_is ∙ is.stated ∙ sym touched.stated_is;
     adds = subst (λ (o : Outcome). Adds old new o.made o.lost o.fresh o.gone) (sym touched.outcome_is) is.adds;
     counts = record { fresh = (let f = is.counts.fresh in omega arith); gone = (let f = is.counts.gone in omega arith) };
     keeps = keeps;

@@ -9,7 +9,7 @@ use Rattle.update_model.specs.Joins.{Kid, named, known, kid_name, there, branch_
 use Rattle.trie_shape.specs.declared.sub.Sub.{Sub}
 use Rattle.trie_shape.specs.declared.sub.Sub.TheVariants.{Empty, Leaf, Branch, Extension}
 use Rattle.trie_update.specs.declared.joining.Child.{Child}
-use Rattle.trie_update.specs.declared.joining.Child.TheVariants.{Named, Known}
+use Rattle.trie_update.specs.declared.joining.Child.TheVariants.{Absent, Named, Known}
 use Rattle.trie_update.specs.declared.joining.Few.{Few}
 use Rattle.trie_update.specs.declared.joining.Few.TheVariants.{Zero, One, More}
 
@@ -20,8 +20,9 @@ top_of_sub (Branch digest used) = branch digest.0 used
 top_of_sub (Extension path child used) = extension path child.0 used
 
 abbrev pub kid_of : Child → Kid
+kid_of Absent = known empty
 kid_of (Named digest) = named digest.0
-kid_of (Known sub) = known (top_of_sub sub)
+kid_of (Known sub) = known (top_of_sub sub.value)
 
 -- the child at a nibble, and none past the last one
 unfoldable pub kid_at : List Child → ℕ → Kid

@@ -21,10 +21,12 @@ use trie_shape::{CloseError, Closed, Sub, close_branch};
 /// A child of a branch after the batch.
 #[derive(Debug, Drop)]
 pub(crate) enum Child {
+    /// There is none.
+    Absent,
     /// It was not visited, and only its name is known.
     Named(Digest),
-    /// Its top is known. It is empty where there is no child.
-    Known(Sub),
+    /// Its top is known. It stands in a box, so that sixteen children take little room.
+    Known(Box<Sub>),
 }
 
 /// What is left of a branch: its value, and what stands at its sixteen nibbles.
@@ -32,6 +34,17 @@ pub(crate) enum Child {
 pub(crate) struct Left {
     pub(crate) value: Option<ValueRef>,
     pub(crate) children: Vec<Child>,
+}
+
+/// A child whose top is known.
+pub(crate) fn known(alloc: Global, sub: Sub) -> Result<Child, UpdateError>
+    ensures child { IfOk result (λ child. kid_of child ≡ model.known (top_of_sub sub)) }
+    ensures error { IfErr result (λ error. error ≡ NoMemory) }
+{
+    match Box::new(alloc, sub) {
+        Ok(sub) => Ok(Child::Known(sub)),
+        Err(_) => Err(UpdateError::NoMemory),
+    }
 }
 
 /// How many children are there, and which one where it is alone.
@@ -59,11 +72,20 @@ fn is_there(child: &Child) -> bool
     ensures { result ≡ model.is_there (kid_of child.now) }
 {
     match child {
+        Child::Absent => false,
         Child::Named(_) => true,
-        Child::Known(Sub::Empty) => false,
-        Child::Known(Sub::Leaf { .. }) => true,
-        Child::Known(Sub::Branch { .. }) => true,
-        Child::Known(Sub::Extension { .. }) => true,
+        Child::Known(sub) => has_pairs(sub),
+    }
+}
+
+fn has_pairs(sub: &Sub) -> bool
+    ensures { result ≡ model.is_there (model.known (top_of_sub sub.now)) }
+{
+    match sub {
+        Sub::Empty => false,
+        Sub::Leaf { .. } => true,
+        Sub::Branch { .. } => true,
+        Sub::Extension { .. } => true,
     }
 }
 
@@ -144,7 +166,8 @@ fn lone(alloc: Global, mut children: Vec<Child>, nibble: usize) -> Result<Sub, U
     ensures error { IfErr result (λ error. error ≡ NoMemory) }
 {
     match children.swap_remove(nibble) {
-        Child::Known(sub) => under(alloc, sub, &[nibble as u8]),
+        Child::Known(sub) => under(alloc, Box::into_inner(sub), &[nibble as u8]),
+        Child::Absent => Ok(Sub::Empty),
         // One that was not visited was merged before.
         Child::Named(_) => unreachable!(),
     }
@@ -218,7 +241,8 @@ fn next_name(
 {
     match children.pop_front() {
         Some(Child::Named(digest)) => Ok((Some(digest), 0)),
-        Some(Child::Known(sub)) => recorded(alloc, ledger, sub),
+        Some(Child::Absent) => Ok((None, 0)),
+        Some(Child::Known(sub)) => recorded(alloc, ledger, Box::into_inner(sub)),
         None => unreachable!(),
     }
 }

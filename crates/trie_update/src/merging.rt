@@ -12,7 +12,7 @@ ghost use Rattle.trie_update.specs.Subs.{kid_at, top_of_sub};
 ghost use Rattle.trie_update.specs.declared.errors.UpdateError.TheVariants.{NoMemory};
 
 use crate::errors::UpdateError;
-use crate::joining::{Child, Few, Left, count_few, join};
+use crate::joining::{Child, Few, Left, count_few, join, known};
 use crate::ledger::Ledger;
 use crate::visiting::{Visited, states_enough, visit};
 use base_core::Digest;
@@ -77,7 +77,7 @@ fn merge<T: Texts>(
         return Ok((Left { value, children }, 0));
     };
     let (sub, stated) = visit_lone(alloc, store, ledger, digest, depth)?;
-    children[nibble] = Child::Known(sub);
+    children[nibble] = known(alloc, sub)?;
     Ok((Left { value, children }, stated))
 }
 
@@ -94,6 +94,7 @@ fn find_lone(value: &Option<ValueRef>, children: &[Child]) -> Option<(usize, Dig
         Few::Zero => None,
         Few::One(nibble) => match &children[nibble] {
             Child::Named(digest) => Some((nibble, *digest)),
+            Child::Absent => None,
             Child::Known(_) => None,
         },
         Few::More => None,

@@ -6,6 +6,7 @@ ghost use Rattle.batch_model.specs.Changes.{most_changes};
 ghost use Rattle.visit_model.specs.Seen.{Seen, branch, seen_at, seen_child, stated_usage};
 ghost use Rattle.change_model.specs.Visits.{before, branch_cost, closed, most_usage, visits_at, visits_below};
 ghost use Rattle.node_codec.specs.Meanings.{children_in, value_of};
+ghost use Rattle.update_model.specs.Joins as kid;
 ghost use Rattle.update_model.specs.Tops.{lowered};
 ghost use Rattle.update_model.specs.Updates.{branch_outcome, fork_outcome, laid, ref_after, updated};
 ghost use Rattle.trie_update.specs.Accounts.{CanCount, GrowsBy, IsNamed};
@@ -18,7 +19,7 @@ ghost use Rattle.trie_update.specs.declared.errors.UpdateError.TheVariants.{NoMe
 
 use crate::errors::UpdateError;
 use crate::former::{Former, Parent};
-use crate::joining::{Child, Left, join, no_children, under};
+use crate::joining::{Child, Left, join, known, no_children, under};
 use crate::ledger::Ledger;
 use crate::merging::settle;
 use crate::old::{Old, shared_length};
@@ -397,16 +398,25 @@ fn at_former<T: Texts>(
     }
     match former {
         Former::Known(old) => {
-            let Placed { sub, stated } = at_path(alloc, store, ledger, old, changes, depth)?;
-            Ok((Child::Known(sub), stated))
+            let placed = at_path(alloc, store, ledger, old, changes, depth)?;
+            child_placed(alloc, placed)
         }
         Former::Named(digest) => {
-            let Placed { sub, stated } = at_digest(
-                alloc, store, ledger, digest, changes, depth, false,
-            )?;
-            Ok((Child::Known(sub), stated))
+            let placed = at_digest(alloc, store, ledger, digest, changes, depth, false)?;
+            child_placed(alloc, placed)
         }
     }
+}
+
+/// What a place has become as a child, and what its record stated.
+#[inline(always)]
+fn child_placed(alloc: Global, placed: Placed) -> Result<(Child, u64), UpdateError>
+    ensures child { IfOk result (λ child. (kid_of child.0 ≡ kid.known (top_of_sub placed.sub)) × (child.1 ≡ placed.stated)) }
+    ensures error { IfErr result (λ error. error ≡ NoMemory) }
+{
+    let Placed { sub, stated } = placed;
+    let child = known(alloc, sub)?;
+    Ok((child, stated))
 }
 
 /// The child that stood behind a nibble, where no key is changed.
@@ -417,7 +427,8 @@ fn unchanged(alloc: Global, former: &Former<'_>) -> Result<Child, UpdateError>
 {
     match former {
         Former::Known(old) => match old.sub(alloc) {
-            Ok(sub) => Ok(Child::Known(sub)),
+            Ok(Sub::Empty) => Ok(Child::Absent),
+            Ok(sub) => known(alloc, sub),
             Err(AllocError) => Err(UpdateError::NoMemory),
         },
         Former::Named(digest) => Ok(Child::Named(*digest)),

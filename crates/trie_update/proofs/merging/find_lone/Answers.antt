@@ -1,6 +1,7 @@
 use Rattle.std.proofs.Common.{◌<◌, length, ap, sym, ◌∙◌, arith}
 use Rattle.node_codec.specs.Meanings.{value_of}
 use Rattle.update_model.specs.Joins.{is_there}
+use Rattle.update_model.specs.Tops.{empty}
 use Rattle.update_model.proofs.Joined.{only-holds}
 use Rattle.trie_update.specs.Subs.{kid_at, kid_of, top_of_sub}
 use Rattle.trie_update.proofs.Children.{kid_at-item}
@@ -26,11 +27,18 @@ returns-in-Named c =
     lone-found value_of c.args.value.now (kid_at c.args.children.now) (sym c.if-is_some.ensures) c.in-One.nibble c.in-Named.digest c.in-One.ensures
     (kid_at-item c.args.children.now c.in-One.nibble c.index-children-nibble.result inside c.index-children-nibble.is ∙ ap kid_of c.in-Named.is)
 
+pub returns-in-Absent : goal.returns-in-Absent
+returns-in-Absent c =
+    let small = (only-holds (λ x. is_there (kid_at c.args.children.now x)) 16 c.in-One.nibble c.in-One.ensures).0 in
+    let inside : c.in-One.nibble < length c.args.children.now = omega arith in
+    lone-known value_of c.args.value.now (kid_at c.args.children.now) (sym c.if-is_some.ensures) c.in-One.nibble empty c.in-One.ensures
+    (kid_at-item c.args.children.now c.in-One.nibble c.index-children-nibble.result inside c.index-children-nibble.is ∙ ap kid_of c.in-Absent.is)
+
 pub returns-in-Known : goal.returns-in-Known
 returns-in-Known c =
     let small = (only-holds (λ x. is_there (kid_at c.args.children.now x)) 16 c.in-One.nibble c.in-One.ensures).0 in
     let inside : c.in-One.nibble < length c.args.children.now = omega arith in
-    lone-known value_of c.args.value.now (kid_at c.args.children.now) (sym c.if-is_some.ensures) c.in-One.nibble (top_of_sub c.in-Known.field-0) c.in-One.ensures
+    lone-known value_of c.args.value.now (kid_at c.args.children.now) (sym c.if-is_some.ensures) c.in-One.nibble (top_of_sub c.in-Known.field-0.value) c.in-One.ensures
     (kid_at-item c.args.children.now c.in-One.nibble c.index-children-nibble.result inside c.index-children-nibble.is ∙ ap kid_of c.in-Known.is)
 
 pub returns-in-More : goal.returns-in-More

@@ -1,4 +1,5 @@
 use Rattle.std.proofs.Common.{◌≡◌, ◌<◌, ℕ, false, [], length, None, Ok, option_map, refl, ap, sym, subst, ◌∙◌, arith}
+use Rattle.std.specs.Prelude.{IsErrAnd}
 use Rattle.std.proofs.Math.ListN.{length-set}
 use Rattle.node_codec.specs.Meanings.{value_of}
 use Rattle.change_model.specs.Visits.{merge_visits, merge_usage, visit_alone}
@@ -6,12 +7,12 @@ use Rattle.visit_model.specs.Seen.{seen_at}
 use Rattle.update_model.specs.Updates.{lost_alone, merged_lost}
 use Rattle.trie_shape.specs.declared.sub.Sub.{Sub}
 use Rattle.trie_update.specs.declared.joining.Left.{Left}
-use Rattle.trie_update.specs.declared.joining.Child.TheVariants as child
+use Rattle.trie_update.specs.declared.errors.UpdateError.TheVariants.{NoMemory}
 use Rattle.trie_update.specs.Carries.{Carries}
 use Rattle.trie_update.specs.Merges.{IsFound, MergedStands, lone_named, seen_kids}
 use Rattle.trie_update.specs.Subs.{kid_at, top_of_sub}
 use Rattle.trie_update.proofs.Adding.{adds-none, adds-same}
-use Rattle.trie_update.proofs.Carrying.{carries-none, carries-ok, carries-passed}
+use Rattle.trie_update.proofs.Carrying.{carries-none, carries-ok, carries-passed, carries-late}
 use Rattle.trie_update.proofs.Lones.{kids-kept, kids-put, visits-found, usage-found, lost-found, stands-found}
 use Rattle.trie_update.proofs.merging.merge.Goals as goal
 
@@ -50,6 +51,19 @@ returns-in_err-sub-clause-carries g c =
     subst (λ v. Carries {X = Left × ℕ} store old new v c.from_residual.result) (sym visits)
     (carries-passed store old new (visit_alone (seen_at (store.texts old) c.args.depth false c.in-Some.digest.0)) c.in_err-sub.field-0.0 c.from_residual.result c.from_residual.ensures.1 c.in_err-sub.ensures.carries)
 
+pub returns-in_err-children-clause-carries : goal.returns-in_err-children-clause-carries
+returns-in_err-children-clause-carries g c =
+    let store = g.T.Texts.store in
+    let old = c.args.store.now in
+    let new = c.visit_lone.new.store in
+    let items = c.args.left.children.items in
+    let found = subst (λ items. IsFound (option_map value_of c.args.left.value) (kid_at items) c.in-Some.nibble c.in-Some.digest) c.deref.ensures.value c.in-Some.ensures in
+    let visits = visits-found (store.texts old) c.args.depth (option_map value_of c.args.left.value) items c.in-Some.nibble c.in-Some.digest found in
+    let all = subst (λ v. Carries {X = Sub × ℕ} store old new v (Ok (c.in_ok-sub.sub, c.in_ok-sub.stated))) (sym visits) c.in_ok-sub.ensures.carries in
+    carries-passed store {X = Left × ℕ} {Y = Left × ℕ} old new _ NoMemory c.from_residual-in_err-children.result
+    (subst (λ e. IsErrAnd c.from_residual-in_err-children.result (λ given. given ≡ e)) c.in_err-children.ensures.error c.from_residual-in_err-children.ensures.1)
+    (carries-late store {X = Sub × ℕ} {Y = Left × ℕ} old new _ (c.in_ok-sub.sub, c.in_ok-sub.stated) all)
+
 pub returns-clause-carries : goal.returns-clause-carries
 returns-clause-carries g c =
     let store = g.T.Texts.store in
@@ -74,11 +88,11 @@ returns-clause-merged g c =
     let alone = c.in_ok-sub.ensures.alone in
     let seen = seen_kids table c.args.depth (kid_at items) in
     let inside : nibble < length items = (let small = found.small in let all = c.requires.sixteen in omega arith) in
-    let new = child.Known c.in_ok-sub.sub in
+    let new = c.in_ok-children.field-0 in
     record {
       value = refl;
       sixteen = length-set items nibble new ∙ c.requires.sixteen;
-      kids = λ x small. kids-put table c.args.depth ref items nibble digest found (top_of_sub c.in_ok-sub.sub) new inside refl alone.top x;
+      kids = λ x small. kids-put table c.args.depth ref items nibble digest found (top_of_sub c.in_ok-sub.sub) new inside c.in_ok-children.ensures.child alone.top x;
       stated = alone.stated ∙ sym (usage-found table c.args.depth ref items nibble digest found);
       adds = adds-same c.args.ledger.now c.visit_lone.new.ledger [] (lost_alone (seen_at table c.args.depth false digest.0)) 0 0 [] (merged_lost (lone_named ref (kid_at items)) seen) 0 0 refl (sym (lost-found table c.args.depth ref items nibble digest found)) refl refl alone.adds;
       stands = stands-found table c.args.depth ref items nibble digest found alone.stands;

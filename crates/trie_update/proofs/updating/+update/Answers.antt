@@ -443,53 +443,53 @@ at_former-returns-then-is_empty-clause-child g t c =
     let none : cs ≡ [] = ap (changes_at c.args.depth) (empty-changes c.args.changes.now c.if-is_empty.ensures) in
     child-untouched table c.args.depth c.args.former.now cs c.args.ledger.now c.in_ok-unchanged.field-0 none c.in_ok-unchanged.ensures.child
 
-pub at_former-returns-in_err-sub-in-Known-clause-carries : goal.at_former-returns-in_err-sub-in-Known-clause-carries
-at_former-returns-in_err-sub-in-Known-clause-carries g t c =
+pub at_former-returns-in_err-placed-in-Known-clause-carries : goal.at_former-returns-in_err-placed-in-Known-clause-carries
+at_former-returns-in_err-placed-in-Known-clause-carries g t c =
     let store = g.T.Texts.store in
     let some = some-changes c.args.changes.now c.if-is_empty.ensures in
     let touched = known-touched (store.texts c.args.store.now) c.args.depth c.args.former.now c.args.changes.now some c.in-Known.old c.in-Known.is in
-    carries-placed c.args.depth _ _ _ _ _ _ touched (length-changes_at c.args.depth c.args.changes.now) store c.args.store.now c.at_path.new.store c.from_residual-in_err-sub-in-Known.result
-    (carries-passed store {X = Placed} {Y = Child × ℕ} c.args.store.now c.at_path.new.store _ c.in_err-sub-in-Known.field-0.0 c.from_residual-in_err-sub-in-Known.result c.from_residual-in_err-sub-in-Known.ensures.1 c.in_err-sub-in-Known.ensures.carries)
+    carries-placed c.args.depth _ _ _ _ _ _ touched (length-changes_at c.args.depth c.args.changes.now) store c.args.store.now c.at_path.new.store c.from_residual-in_err-placed-in-Known.result
+    (carries-passed store {X = Placed} {Y = Child × ℕ} c.args.store.now c.at_path.new.store _ c.in_err-placed-in-Known.field-0.0 c.from_residual-in_err-placed-in-Known.result c.from_residual-in_err-placed-in-Known.ensures.1 c.in_err-placed-in-Known.ensures.carries)
 
-pub at_former-returns-in_err-sub-in-Named-clause-carries : goal.at_former-returns-in_err-sub-in-Named-clause-carries
-at_former-returns-in_err-sub-in-Named-clause-carries g t c =
+pub at_former-returns-in_err-placed-in-Named-clause-carries : goal.at_former-returns-in_err-placed-in-Named-clause-carries
+at_former-returns-in_err-placed-in-Named-clause-carries g t c =
     let store = g.T.Texts.store in
     let some = some-changes c.args.changes.now c.if-is_empty.ensures in
     let touched = named-touched (store.texts c.args.store.now) c.args.depth c.args.former.now c.args.changes.now some c.in-Named.digest c.in-Named.is in
-    carries-placed c.args.depth _ _ _ _ _ _ touched (length-changes_at c.args.depth c.args.changes.now) store c.args.store.now c.at_digest.new.store c.from_residual-in_err-sub-in-Named.result
-    (carries-passed store {X = Placed} {Y = Child × ℕ} c.args.store.now c.at_digest.new.store _ c.in_err-sub-in-Named.field-0.0 c.from_residual-in_err-sub-in-Named.result c.from_residual-in_err-sub-in-Named.ensures.1 c.in_err-sub-in-Named.ensures.carries)
+    carries-placed c.args.depth _ _ _ _ _ _ touched (length-changes_at c.args.depth c.args.changes.now) store c.args.store.now c.at_digest.new.store c.from_residual-in_err-placed-in-Named.result
+    (carries-passed store {X = Placed} {Y = Child × ℕ} c.args.store.now c.at_digest.new.store _ c.in_err-placed-in-Named.field-0.0 c.from_residual-in_err-placed-in-Named.result c.from_residual-in_err-placed-in-Named.ensures.1 c.in_err-placed-in-Named.ensures.carries)
 
-pub at_former-returns-in_ok-sub-in-Known-clause-carries : goal.at_former-returns-in_ok-sub-in-Known-clause-carries
-at_former-returns-in_ok-sub-in-Known-clause-carries g t c =
+pub at_former-returns-in_ok-placed-in-Known-clause-carries : goal.at_former-returns-in_ok-placed-in-Known-clause-carries
+at_former-returns-in_ok-placed-in-Known-clause-carries g t c =
     let store = g.T.Texts.store in
     let some = some-changes c.args.changes.now c.if-is_empty.ensures in
     let touched = known-touched (store.texts c.args.store.now) c.args.depth c.args.former.now c.args.changes.now some c.in-Known.old c.in-Known.is in
-    carries-placed c.args.depth _ _ _ _ _ _ touched (length-changes_at c.args.depth c.args.changes.now) {X = Child × ℕ} store c.args.store.now c.at_path.new.store _
-    (carries-ok store {X = Placed} {Y = Child × ℕ} c.args.store.now c.at_path.new.store _ c.in_ok-sub-in-Known.field-0 _ c.in_ok-sub-in-Known.ensures.carries)
+    carries-placed c.args.depth _ _ _ _ _ _ touched (length-changes_at c.args.depth c.args.changes.now) {X = Child × ℕ} store c.args.store.now c.at_path.new.store c.child_placed.result
+    (carries-end store {X = Placed} {Y = Child × ℕ} c.args.store.now c.at_path.new.store _ c.in_ok-placed-in-Known.placed c.child_placed.result c.child_placed.ensures.error c.in_ok-placed-in-Known.ensures.carries)
 
-pub at_former-returns-in_ok-sub-in-Known-clause-child : goal.at_former-returns-in_ok-sub-in-Known-clause-child
-at_former-returns-in_ok-sub-in-Known-clause-child g t c =
+pub at_former-returns-in_ok-placed-in-Known-clause-child : goal.at_former-returns-in_ok-placed-in-Known-clause-child
+at_former-returns-in_ok-placed-in-Known-clause-child g t c =
     let store = g.T.Texts.store in
     let some = some-changes c.args.changes.now c.if-is_empty.ensures in
     let touched = known-touched (store.texts c.args.store.now) c.args.depth c.args.former.now c.args.changes.now some c.in-Known.old c.in-Known.is in
-    child-placed c.args.depth _ _ _ _ _ _ touched (length-changes_at c.args.depth c.args.changes.now) c.args.ledger.now c.at_path.new.ledger c.in_ok-sub-in-Known.field-0 c.in_ok-sub-in-Known.ensures.placed
-    (known-keeps (store.texts c.args.store.now) c.args.depth c.args.former.now c.args.changes.now some c.in-Known.old c.in-Known.is c.in_ok-sub-in-Known.ensures.keeps)
+    IfOk-weaker c.child_placed.result _ _ (λ child is. child-placed c.args.depth _ _ _ _ _ _ touched (length-changes_at c.args.depth c.args.changes.now) c.args.ledger.now c.at_path.new.ledger c.in_ok-placed-in-Known.placed c.in_ok-placed-in-Known.ensures.placed
+    (known-keeps (store.texts c.args.store.now) c.args.depth c.args.former.now c.args.changes.now some c.in-Known.old c.in-Known.is c.in_ok-placed-in-Known.ensures.keeps) child is.0 is.1) c.child_placed.ensures.child
 
-pub at_former-returns-in_ok-sub-in-Named-clause-carries : goal.at_former-returns-in_ok-sub-in-Named-clause-carries
-at_former-returns-in_ok-sub-in-Named-clause-carries g t c =
+pub at_former-returns-in_ok-placed-in-Named-clause-carries : goal.at_former-returns-in_ok-placed-in-Named-clause-carries
+at_former-returns-in_ok-placed-in-Named-clause-carries g t c =
     let store = g.T.Texts.store in
     let some = some-changes c.args.changes.now c.if-is_empty.ensures in
     let touched = named-touched (store.texts c.args.store.now) c.args.depth c.args.former.now c.args.changes.now some c.in-Named.digest c.in-Named.is in
-    carries-placed c.args.depth _ _ _ _ _ _ touched (length-changes_at c.args.depth c.args.changes.now) {X = Child × ℕ} store c.args.store.now c.at_digest.new.store _
-    (carries-ok store {X = Placed} {Y = Child × ℕ} c.args.store.now c.at_digest.new.store _ c.in_ok-sub-in-Named.field-0 _ c.in_ok-sub-in-Named.ensures.carries)
+    carries-placed c.args.depth _ _ _ _ _ _ touched (length-changes_at c.args.depth c.args.changes.now) {X = Child × ℕ} store c.args.store.now c.at_digest.new.store c.child_placed-in-Named.result
+    (carries-end store {X = Placed} {Y = Child × ℕ} c.args.store.now c.at_digest.new.store _ c.in_ok-placed-in-Named.placed c.child_placed-in-Named.result c.child_placed-in-Named.ensures.error c.in_ok-placed-in-Named.ensures.carries)
 
-pub at_former-returns-in_ok-sub-in-Named-clause-child : goal.at_former-returns-in_ok-sub-in-Named-clause-child
-at_former-returns-in_ok-sub-in-Named-clause-child g t c =
+pub at_former-returns-in_ok-placed-in-Named-clause-child : goal.at_former-returns-in_ok-placed-in-Named-clause-child
+at_former-returns-in_ok-placed-in-Named-clause-child g t c =
     let store = g.T.Texts.store in
     let some = some-changes c.args.changes.now c.if-is_empty.ensures in
     let touched = named-touched (store.texts c.args.store.now) c.args.depth c.args.former.now c.args.changes.now some c.in-Named.digest c.in-Named.is in
-    child-placed c.args.depth _ _ _ _ _ _ touched (length-changes_at c.args.depth c.args.changes.now) c.args.ledger.now c.at_digest.new.ledger c.in_ok-sub-in-Named.field-0 c.in_ok-sub-in-Named.ensures.placed
-    (named-keeps (store.texts c.args.store.now) c.args.depth c.args.former.now c.args.changes.now some c.in-Named.digest c.in-Named.is c.in_ok-sub-in-Named.ensures.keeps)
+    IfOk-weaker c.child_placed-in-Named.result _ _ (λ child is. child-placed c.args.depth _ _ _ _ _ _ touched (length-changes_at c.args.depth c.args.changes.now) c.args.ledger.now c.at_digest.new.ledger c.in_ok-placed-in-Named.placed c.in_ok-placed-in-Named.ensures.placed
+    (named-keeps (store.texts c.args.store.now) c.args.depth c.args.former.now c.args.changes.now some c.in-Named.digest c.in-Named.is c.in_ok-placed-in-Named.ensures.keeps) child is.0 is.1) c.child_placed-in-Named.ensures.child
 
 pub at_nibbles-run_length-requires-clause-rises : goal.at_nibbles-run_length-requires-clause-rises
 at_nibbles-run_length-requires-clause-rises g t c = c.loop-nibble.invariant.left.changes.rises
