@@ -15,3 +15,4 @@ pub mod Holding
 pub mod Gathering
 pub mod Answering
 pub mod Setting
+pub mod Naming

@@ -1,38 +1,51 @@
-use sha2::{Digest, Sha256};
+ghost use Rattle.std.specs.Prelude.{◌≡◌, map, IfOk};
+ghost use Rattle.sha2.specs.Sha256.{sha256};
+ghost use Rattle.text_store.specs.TextSets.{texts_of_keys};
+
+use base_core::{Digest, digest};
+use sha2::{Digest as _, Sha256};
+use std::alloc::{AllocError, Global};
 use std::collections::BTreeSet;
 use std::hash::{BuildHasher, FoldHasher, Hasher};
 
-/// What hashes the digests of a table. Its key is made of all texts of the table, by SHA-256. So
-/// nobody can look for texts whose digests fall together there: each text changes where all fall.
+/// What hashes the digests of a table. Its key is made of all of them, by SHA-256. So nobody can look
+/// for texts whose digests fall together there: each text changes where all fall.
 #[derive(Clone, Copy)]
 pub(crate) struct Keyed {
     start: FoldHasher,
 }
 
-/// The key of a table of these texts.
-pub(crate) fn key_of_texts(texts: &[&[u8]]) -> Keyed {
-    let mut sum = Sha256::new();
+/// The digest of each text.
+pub(crate) fn digests_of(alloc: Global, texts: &[&[u8]]) -> Result<Vec<Digest>, AllocError>
+    ensures { IfOk result (λ digests. map (λ digest. digest.0) digests.items ≡ map sha256 (map (λ text. text.now) texts.now)) }
+{
+    let mut digests = Vec::with_capacity(alloc, texts.len())?;
     for text in texts {
-        add(&mut sum, text);
+        digests.push(digest(text))?;
     }
-    keyed_by(sum)
+    Ok(digests)
 }
 
 /// The same of a set.
-pub(crate) fn key_of_set(texts: &BTreeSet<Vec<u8>>) -> Keyed {
-    let mut sum = Sha256::new();
+pub(crate) fn digests_of_set(
+    alloc: Global,
+    texts: &BTreeSet<Vec<u8>>,
+) -> Result<Vec<Digest>, AllocError>
+    ensures { IfOk result (λ digests. map (λ digest. digest.0) digests.items ≡ map sha256 (texts_of_keys texts.now.keys)) }
+{
+    let mut digests = Vec::with_capacity(alloc, texts.len())?;
     for text in texts {
-        add(&mut sum, text.as_slice());
+        digests.push(digest(text.as_slice()))?;
     }
-    keyed_by(sum)
+    Ok(digests)
 }
 
-fn add(sum: &mut Sha256, text: &[u8]) {
-    sum.update(&(text.len() as u64).to_le_bytes());
-    sum.update(text);
-}
-
-fn keyed_by(sum: Sha256) -> Keyed {
+/// The key of a table of these digests.
+pub(crate) fn key_of(digests: &[Digest]) -> Keyed {
+    let mut sum = Sha256::new();
+    for digest in digests {
+        sum.update(&digest.0);
+    }
     let mut start = FoldHasher::default();
     start.write(&sum.finalize());
     Keyed { start }

@@ -9,7 +9,7 @@ ghost use Rattle.partial_model.specs.Texts.{lesser};
 ghost use Rattle.text_store.specs.PartialStates.{digest_taken, fresh_entry, has_digest};
 
 use crate::keyed::Keyed;
-use base_core::{Digest, Text, digest};
+use base_core::{Digest, Text};
 use indexmap::IndexMap;
 use std::alloc::{AllocError, Global};
 
@@ -24,13 +24,14 @@ pub(crate) struct Marked {
 /// the texts are of no more use.
 pub(crate) fn hold(
     held: &mut IndexMap<Digest, Marked, Keyed>,
+    digest: Digest,
     text: Text,
 ) -> Result<Option<Digest>, AllocError>
+    requires { digest.0 ≡ sha256 text }
     ensures taken { IfOk result (λ taken. option_map (λ digest. digest.0) taken ≡ digest_taken held.old.entries (sha256 text)) }
     ensures has { OnOk result ((digest : List ℕ) → has_digest held.new.entries digest ≡ (pointwise nat_eq (sha256 text) digest || has_digest held.old.entries digest)) }
     ensures last { IfOk result (λ taken. IfNone taken (held.new.entries ≡ held.old.entries ++ fresh_entry text ∷ [])) }
 {
-    let digest = digest(text.as_slice());
     match held.insert(digest, Marked { text, used: false }) {
         Ok(None) if digest != Digest::ZERO => Ok(None),
         Ok(_) => Ok(Some(digest)),

@@ -11,7 +11,7 @@ ghost use Rattle.text_store.specs.PartialStates.{AnswersWhole, AnswersFirst, Ans
 ghost use Rattle.text_store.specs.contracts.partial_texts.PartialTexts.{the_row};
 
 use crate::errors::PartialError;
-use crate::keyed::{Keyed, key_of_set, key_of_texts};
+use crate::keyed::{Keyed, digests_of, digests_of_set, key_of};
 use crate::marked::{Marked, first_unmarked, hold, least_of};
 use crate::partial_reading::{fall_among, read_texts};
 use crate::text_set::TextSet;
@@ -72,9 +72,11 @@ impl PartialTexts {
         ensures { IfOk result (λ held. held ≡ unread (texts_in set)) }
     {
         let texts = set.into_texts();
-        let mut held = IndexMap::with_hasher(alloc, key_of_set(&texts));
+        let digests = digests_of_set(alloc, &texts)?;
+        let mut held = IndexMap::with_hasher(alloc, key_of(digests.as_slice()));
         for bytes in texts {
-            hold(&mut held, Text::from_bytes(bytes))?;
+            let digest = digests[held.len()];
+            hold(&mut held, digest, Text::from_bytes(bytes))?;
         }
         Ok(PartialTexts { held, loads: 0 })
     }
@@ -115,10 +117,11 @@ impl PartialTexts {
         if let Some(place) = fall_among(texts) {
             return Err(PartialError::Order { place });
         }
-        let mut held = IndexMap::with_hasher(alloc, key_of_texts(texts));
+        let digests = digests_of(alloc, texts)?;
+        let mut held = IndexMap::with_hasher(alloc, key_of(digests.as_slice()));
         let mut least: Option<Digest> = None;
-        for text in texts {
-            if let Some(digest) = hold(&mut held, Text::copy(alloc, text)?)? {
+        for (place, text) in texts.iter().enumerate() {
+            if let Some(digest) = hold(&mut held, digests[place], Text::copy(alloc, text)?)? {
                 least = Some(least_of(least, digest));
             }
         }
