@@ -175,7 +175,7 @@ shaped-agree : (ref : Option ValueRef) (kids others : ℕ → Option (List ℕ))
 shaped-agree None kids others same h = let count = child_count-same kids others same in omega arith
 shaped-agree (Some ref) kids others same h = (h.0, let count = child_count-same kids others same in let some = h.1 in omega arith)
 
-own-branch : (ref : Option ValueRef) (kids : ℕ → Option (List ℕ)) → own_cost (node.branch ref kids) ≡ branch_cost ref
+pub own-branch : (ref : Option ValueRef) (kids : ℕ → Option (List ℕ)) → own_cost (node.branch ref kids) ≡ branch_cost ref
 unfolding own_cost
 own-branch None kids = refl
 own-branch (Some ref) kids = refl

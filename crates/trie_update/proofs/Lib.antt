@@ -16,6 +16,8 @@ pub mod Seeing
 pub mod KidCopies
 -- the visit of a node
 pub mod NodeVisits
+-- a branch that comes out as it was read
+pub mod Formers
 -- calls with visits, one after the other
 pub mod Carrying
 -- visits over the nibbles, of which one has any

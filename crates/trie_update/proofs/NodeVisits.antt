@@ -1,16 +1,22 @@
 -- The visit of a node, by what its load and the reading of its text answered.
-use Rattle.std.proofs.Common.{◌≡◌, ℕ, ◌-◌, ◌^◌, ◌≤◌, Bool, List, [], ◌∷◌, min, Option, Some, Result, Ok, Err, sym, subst, arith}
-use Rattle.std.specs.Prelude.{IsSomeAnd}
+use Rattle.std.proofs.Common.{◌≡◌, ℕ, ◌-◌, ◌^◌, ◌≤◌, Bool, List, [], ◌∷◌, min, Option, Some, Result, Ok, Err, sym, subst, ap, ap₂, ◌∙◌, arith}
+use Rattle.std.specs.Prelude.{IfOk, IsSomeAnd}
 use Rattle.std.specs.FinMap.{get}
-use Rattle.byte_model.specs.Node.{Node, own_cost}
+use Rattle.byte_model.specs.Node as node
+use Rattle.byte_model.specs.Node.{Node, ValueRef, own_cost, spelled}
 use Rattle.byte_model.specs.Laws.{SameNode}
-use Rattle.byte_model.specs.Nibbles.{AreNibbles}
+use Rattle.byte_model.specs.Nibbles.{AreBytes, AreNibbles}
+use Rattle.byte_model.proofs.Spellings.{spelled_branch-agree}
 use Rattle.record_model.specs.Fits.{fitting_node}
+use Rattle.record_model.specs.Records.{HasNibblesOnly, IsRecord, RecordFault, record_in}
+use Rattle.record_model.proofs.Fitting.{record_fits}
+use Rattle.record_model.proofs.Nodes.{record_in-found}
 use Rattle.trie_model.specs.Root.{Table}
 use Rattle.base_core.specs.Faults as ended
 use Rattle.base_core.specs.declared.hash.Digest.{Digest}
 use Rattle.change_model.specs.Visits.{most_usage}
 use Rattle.node_codec.specs.Meanings.{node_of, path_of}
+use Rattle.node_codec.specs.declared.node.Node as code
 use Rattle.text_store.specs.Store.{Store}
 use Rattle.text_store.specs.Leaves.{Leaves}
 use Rattle.text_store.proofs.Leaves.{Leaves-refused}
@@ -52,3 +58,22 @@ pub visited-node : (text : List ℕ) (depth : ℕ) (after_extension : Bool) (vis
     → (m : Node) × IsVisited text depth after_extension visited m
 visited-node text depth after_extension visited n fits same nibbles own most =
     (n, record { fits = fits; same = same; nibbles = nibbles; own = own_cost-is depth after_extension text n visited.stated visited.own fits own; most = most })
+
+-- ---- its text is its record
+
+spelled-agree : (m n : Node) (used : ℕ) → SameNode m n → spelled m used ≡ spelled n used
+spelled-agree (node.leaf path value) (node.leaf other_path other_value) used same = ap₂ (λ (p : List ℕ) (v : ValueRef). spelled (node.leaf p v) used) same.0 same.1
+spelled-agree (node.leaf path value) (node.branch ref kids) used same = absurd same
+spelled-agree (node.leaf path value) (node.extension other child) used same = absurd same
+spelled-agree (node.branch ref kids) (node.leaf path value) used same = absurd same
+spelled-agree (node.branch ref kids) (node.branch other_ref others) used same = ap (λ (v : Option ValueRef). spelled (node.branch v kids) used) same.0 ∙ spelled_branch-agree other_ref kids others used same.1
+spelled-agree (node.branch ref kids) (node.extension path child) used same = absurd same
+spelled-agree (node.extension path child) (node.leaf other value) used same = absurd same
+spelled-agree (node.extension path child) (node.branch ref kids) used same = absurd same
+spelled-agree (node.extension path child) (node.extension other_path other_child) used same = ap₂ (λ (p c : List ℕ). spelled (node.extension p c) used) same.0 same.1
+
+pub visited-record : (text : List ℕ) (depth : ℕ) (after_extension : Bool) (copy : code.Node) (n : Node) (stated : ℕ) → AreBytes text → fitting_node depth after_extension text ≡ Some (n, stated) → SameNode (node_of copy) n → text ≡ spelled (node_of copy) stated
+visited-record text depth after_extension copy n stated bytes fits same =
+    let read = (record_fits depth after_extension (record_in text) n stated fits).0 in
+    let is = subst (λ (r : Result (Node × ℕ) RecordFault). IfOk r (λ (found : Node × ℕ). IsRecord found.0 found.1 text × HasNibblesOnly found.0)) read (record_in-found text bytes).given in
+    is.0.spelling ∙ sym (spelled-agree (node_of copy) n stated same)

@@ -18,6 +18,8 @@ pub mod Carries
 pub mod Merges
 -- what stood at a place, and what the batch makes of it
 pub mod Places
+-- a branch as it was read
+pub mod Formers
 -- what the calls of the update answer
 pub mod Placed
 -- what gains and losses come to

@@ -5,7 +5,7 @@ ghost use Rattle.trie_update.specs.Places.{FitsFormer, FitsParent, kid_place, pl
 
 use crate::old::Old;
 use base_core::Digest;
-use node_codec::Kids;
+use node_codec::{Kids, ValueRef};
 
 /// What stood behind a nibble before the batch.
 #[derive(Clone, Copy)]
@@ -14,6 +14,16 @@ pub(crate) enum Former<'a> {
     Known(Old<'a>),
     /// A child of a branch.
     Named(Digest),
+}
+
+/// A branch as it was read: under which digest, what its record states, and what it costs by itself.
+#[derive(Clone, Copy)]
+pub(crate) struct FormerBranch<'a> {
+    pub(crate) digest: &'a Digest,
+    pub(crate) value: &'a Option<ValueRef>,
+    pub(crate) kids: &'a Kids,
+    pub(crate) stated: u64,
+    pub(crate) own: u64,
 }
 
 /// A place that parts into what stood behind its nibbles.

@@ -1,19 +1,24 @@
-ghost use Rattle.std.specs.Prelude.{◌≡◌, ◌+◌, ◌^◌, ◌<◌, [], ◌∷◌, length, drop, option_map, Some, OnOk, IfOk, IfErr};
-ghost use Rattle.node_codec.specs.Meanings.{value_of};
+ghost use Rattle.std.specs.Prelude.{◌≡◌, ◌+◌, ◌^◌, ◌<◌, ℕ, [], ◌∷◌, length, drop, option_map, Some, IfSome, IsTrue, OnOk, IfOk, IfErr};
+ghost use Rattle.byte_model.specs.Node as node;
+ghost use Rattle.byte_model.specs.Node.{IsShaped, own_cost};
+ghost use Rattle.node_codec.specs.Meanings.{children_in, value_of};
 ghost use Rattle.update_model.specs.Sound.{StandsAt};
 ghost use Rattle.update_model.specs.Tops.{lowered, pending, top_digest, top_usage};
 ghost use Rattle.update_model.specs.Joins as model;
 ghost use Rattle.update_model.specs.Joins.{branched, joint, kid_name, kid_pending, kid_top, kid_usage, there};
 ghost use Rattle.trie_shape.specs.declared.sub.Sub.TheVariants.{Branch};
+ghost use Rattle.trie_shape.specs.Shows.{IsRecord};
 ghost use Rattle.trie_update.specs.Accounts.{Gains};
 ghost use Rattle.trie_update.specs.Adds.{Adds};
+ghost use Rattle.trie_update.specs.Formers.{IsFormer};
 ghost use Rattle.trie_update.specs.Subs.{CanFork, CanJoin, IsFew, IsKnown, KidStands, childless, kid_at, kid_of, more, top_of_sub};
 ghost use Rattle.trie_update.specs.declared.errors.UpdateError.TheVariants.{NoMemory};
 
 use crate::errors::UpdateError;
+use crate::former::FormerBranch;
 use crate::ledger::Ledger;
 use base_core::{Digest, Text};
-use node_codec::{Kids, ValueRef};
+use node_codec::{Kids, ValueRef, write_branch};
 use std::alloc::{AllocError, Global};
 use std::collections::VecDeque;
 use trie_shape::{CloseError, Closed, Sub, close_branch};
@@ -105,10 +110,12 @@ fn one_more(few: Few, nibble: usize) -> Few
 pub(crate) fn join(
     alloc: Global,
     ledger: &mut Ledger,
+    former: Option<&FormerBranch<'_>>,
     left: Left,
     kept_usage: u64,
 ) -> Result<Sub, UpdateError>
     requires sixteen { length left.children.items ≡ 16 }
+    requires former { IfSome former (λ f. IsFormer f.now) }
     requires joins { CanJoin (option_map value_of left.value) (kid_at left.children.items) kept_usage }
     ensures top { IfOk result (λ sub. top_of_sub sub ≡ (joint (option_map value_of left.value) (kid_at left.children.items) kept_usage).top) }
     ensures adds { OnOk result (Adds ledger.old ledger.new (joint (option_map value_of left.value) (kid_at left.children.items) kept_usage).made [] 0 0) }
@@ -117,8 +124,8 @@ pub(crate) fn join(
     let Left { value, children } = left;
     match count_few(&children) {
         Few::Zero => Ok(no_children(alloc, value)),
-        Few::One(nibble) => one_child(alloc, ledger, value, children, nibble, kept_usage),
-        Few::More => fork(alloc, ledger, value, children, kept_usage),
+        Few::One(nibble) => one_child(alloc, ledger, former, value, children, nibble, kept_usage),
+        Few::More => fork(alloc, ledger, former, value, children, kept_usage),
     }
 }
 
@@ -139,12 +146,14 @@ pub(crate) fn no_children(alloc: Global, value: Option<ValueRef>) -> Sub
 fn one_child(
     alloc: Global,
     ledger: &mut Ledger,
+    former: Option<&FormerBranch<'_>>,
     value: Option<ValueRef>,
     children: Vec<Child>,
     nibble: usize,
     kept_usage: u64,
 ) -> Result<Sub, UpdateError>
     requires sixteen { length children.items ≡ 16 }
+    requires former { IfSome former (λ f. IsFormer f.now) }
     requires joins { CanJoin (option_map value_of value) (kid_at children.items) kept_usage }
     requires one { there (kid_at children.items) ≡ nibble ∷ [] }
     ensures top { IfOk result (λ sub. top_of_sub sub ≡ (joint (option_map value_of value) (kid_at children.items) kept_usage).top) }
@@ -153,7 +162,7 @@ fn one_child(
 {
     match value {
         None => lone(alloc, children, nibble),
-        Some(value) => fork(alloc, ledger, Some(value), children, kept_usage),
+        Some(value) => fork(alloc, ledger, former, Some(value), children, kept_usage),
     }
 }
 
@@ -188,11 +197,13 @@ pub(crate) fn under(alloc: Global, sub: Sub, nibbles: &[u8]) -> Result<Sub, Upda
 fn fork(
     alloc: Global,
     ledger: &mut Ledger,
+    former: Option<&FormerBranch<'_>>,
     value: Option<ValueRef>,
     children: Vec<Child>,
     kept_usage: u64,
 ) -> Result<Sub, UpdateError>
     requires sixteen { length children.items ≡ 16 }
+    requires former { IfSome former (λ f. IsFormer f.now) }
     requires forks { CanFork (option_map value_of value) (kid_at children.items) kept_usage }
     ensures top { IfOk result (λ sub. top_of_sub sub ≡ (branched (option_map value_of value) (kid_at children.items) kept_usage).top) }
     ensures adds { OnOk result (Adds ledger.old ledger.new (branched (option_map value_of value) (kid_at children.items) kept_usage).made [] 0 0) }
@@ -206,10 +217,73 @@ fn fork(
         kids.set(nibble, name);
         usage += used;
     }
-    match close_branch(alloc, value, &kids, usage) {
-        Ok(closed) => branch_written(ledger, closed),
+    let closed = close(alloc, former, value, &kids, usage)?;
+    branch_written(ledger, closed)
+}
+
+/// Writes the record of a branch. One that comes out as it was read keeps its digest, and is not
+/// hashed again.
+fn close(
+    alloc: Global,
+    former: Option<&FormerBranch<'_>>,
+    value: Option<ValueRef>,
+    kids: &Kids,
+    usage: u64,
+) -> Result<Closed, UpdateError>
+    requires former { IfSome former (λ f. IsFormer f.now) }
+    requires shaped { IsShaped (node.branch (option_map value_of value) (children_in kids.now)) }
+    requires fits { own_cost (node.branch (option_map value_of value) (children_in kids.now)) + usage < 2 ^ 64 }
+    ensures written { IfOk result (λ closed. IsRecord closed (node.branch (option_map value_of value) (children_in kids.now)) (own_cost (node.branch (option_map value_of value) (children_in kids.now)) + usage)) }
+    ensures error { IfErr result (λ error. error ≡ NoMemory) }
+{
+    if let Some(branch) = former {
+        if stays(branch, &value, kids, usage) {
+            return close_again(alloc, branch);
+        }
+    }
+    match close_branch(alloc, value, kids, usage) {
+        Ok(closed) => Ok(closed),
         Err(CloseError::NoMemory) => Err(UpdateError::NoMemory),
         Err(CloseError::Usage) => unreachable!(),
+    }
+}
+
+/// Whether a branch comes out as it was read.
+fn stays(branch: &FormerBranch<'_>, value: &Option<ValueRef>, kids: &Kids, usage: u64) -> bool
+    ensures usage { IsTrue result → branch.now.stated ≡ branch.now.own + usage }
+    ensures value { IsTrue result → branch.now.value.now ≡ value.now }
+    ensures kids { IsTrue result → (x : ℕ) → x < 16 → children_in branch.now.kids.now x ≡ children_in kids.now x }
+{
+    usage <= branch.stated
+        && branch.stated - usage == branch.own
+        && *branch.value == *value
+        && are_same(branch.kids, kids)
+}
+
+fn are_same(kids: &Kids, others: &Kids) -> bool
+    ensures { IsTrue result → (x : ℕ) → x < 16 → children_in kids.now x ≡ children_in others.now x }
+{
+    for nibble in 0..16 {
+        if kids.get(nibble) != others.get(nibble) {
+            return false;
+        }
+    }
+    true
+}
+
+/// Writes the record of a branch once more.
+fn close_again(alloc: Global, branch: &FormerBranch<'_>) -> Result<Closed, UpdateError>
+    requires { IsFormer branch.now }
+    ensures written { IfOk result (λ closed. IsRecord closed (node.branch (option_map value_of branch.now.value.now) (children_in branch.now.kids.now)) branch.now.stated) }
+    ensures error { IfErr result (λ error. error ≡ NoMemory) }
+{
+    match write_branch(alloc, branch.value, branch.kids, branch.stated) {
+        Ok(text) => Ok(Closed {
+            text,
+            digest: *branch.digest,
+            usage: branch.stated,
+        }),
+        Err(AllocError) => Err(UpdateError::NoMemory),
     }
 }
 

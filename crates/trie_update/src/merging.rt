@@ -1,17 +1,19 @@
 ghost use Rattle.std.specs.Prelude.{◌≡◌, ◌+◌, ◌-◌, ◌≤◌, [], length, false, option_map, OnOk, IfOk, IfErr};
 ghost use Rattle.byte_model.specs.PackedPath.{longest_path};
 ghost use Rattle.visit_model.specs.Seen.{seen_at};
-ghost use Rattle.change_model.specs.Visits.{before, closed, merge_usage, merge_visits, most_usage, visit_alone};
+ghost use Rattle.change_model.specs.Visits.{before, closed, merge_usage, merge_visits, visit_alone};
 ghost use Rattle.node_codec.specs.Meanings.{value_of};
 ghost use Rattle.update_model.specs.Joins.{joint};
 ghost use Rattle.update_model.specs.Updates.{merged_kids, merged_lost};
 ghost use Rattle.trie_update.specs.Adds.{Adds};
 ghost use Rattle.trie_update.specs.Carries.{Carries};
+ghost use Rattle.trie_update.specs.Formers.{IsFormer};
 ghost use Rattle.trie_update.specs.Merges.{CanSettle, IsAlone, IsLoneNamed, IsMerged, MergedStands, lone_named, lost_read, seen_kids, top_read};
 ghost use Rattle.trie_update.specs.Subs.{kid_at, top_of_sub};
 ghost use Rattle.trie_update.specs.declared.errors.UpdateError.TheVariants.{NoMemory};
 
 use crate::errors::UpdateError;
+use crate::former::FormerBranch;
 use crate::joining::{Child, Few, Left, count_few, join, known};
 use crate::ledger::Ledger;
 use crate::visiting::{Visited, states_enough, visit};
@@ -28,29 +30,28 @@ pub(crate) fn settle<T: Texts>(
     alloc: Global,
     store: &mut T,
     ledger: &mut Ledger,
-    digest: &Digest,
+    former: &FormerBranch<'_>,
     left: Left,
-    stated: u64,
     above: u64,
     depth: u64,
 ) -> Result<Sub, UpdateError>
     requires sixteen { length left.children.items ≡ 16 }
     requires deep { depth ≤ longest_path }
-    requires most { stated ≤ most_usage }
-    requires joins { CanSettle (T.store.texts store.old) depth (option_map value_of left.value) (kid_at left.children.items) stated above }
+    requires former { IsFormer former.now }
+    requires joins { CanSettle (T.store.texts store.old) depth (option_map value_of left.value) (kid_at left.children.items) former.now.stated above }
     ensures carries { let kids = kid_at left.children.items in let seen = seen_kids (T.store.texts store.old) depth kids in let m = lone_named (option_map value_of left.value) kids in
-        Carries T.store store.old store.new (before (merge_visits seen m) (closed digest.now.0 stated (above + merge_usage seen m))) result }
+        Carries T.store store.old store.new (before (merge_visits seen m) (closed former.now.digest.now.0 former.now.stated (above + merge_usage seen m))) result }
     ensures top { let kids = kid_at left.children.items in let seen = seen_kids (T.store.texts store.old) depth kids in let m = lone_named (option_map value_of left.value) kids in
-        IfOk result (λ sub. top_of_sub sub ≡ (joint (option_map value_of left.value) (merged_kids m seen kids) (stated - (above + merge_usage seen m))).top) }
+        IfOk result (λ sub. top_of_sub sub ≡ (joint (option_map value_of left.value) (merged_kids m seen kids) (former.now.stated - (above + merge_usage seen m))).top) }
     ensures adds { let kids = kid_at left.children.items in let seen = seen_kids (T.store.texts store.old) depth kids in let m = lone_named (option_map value_of left.value) kids in
-        OnOk result (Adds ledger.old ledger.new (joint (option_map value_of left.value) (merged_kids m seen kids) (stated - (above + merge_usage seen m))).made (merged_lost m seen) 0 0) }
+        OnOk result (Adds ledger.old ledger.new (joint (option_map value_of left.value) (merged_kids m seen kids) (former.now.stated - (above + merge_usage seen m))).made (merged_lost m seen) 0 0) }
     ensures stands { let kids = kid_at left.children.items in
         OnOk result (MergedStands depth (lone_named (option_map value_of left.value) kids) (seen_kids (T.store.texts store.old) depth kids)) }
 {
     let (left, merged) = merge(alloc, store, ledger, left, depth)?;
     let parts = above.saturating_add(merged);
-    states_enough(digest, stated, parts)?;
-    join(alloc, ledger, left, stated - parts)
+    states_enough(former.digest, former.stated, parts)?;
+    join(alloc, ledger, Some(former), left, former.stated - parts)
 }
 
 /// Visits the one child that is all that is left of a branch, if it was not visited before, and

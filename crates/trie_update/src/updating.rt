@@ -4,7 +4,7 @@ ghost use Rattle.byte_model.specs.Node.{longest_value};
 ghost use Rattle.byte_model.specs.PackedPath.{longest_path};
 ghost use Rattle.batch_model.specs.Changes.{most_changes};
 ghost use Rattle.visit_model.specs.Seen.{Seen, branch, seen_at, seen_child, stated_usage};
-ghost use Rattle.change_model.specs.Visits.{before, branch_cost, closed, most_usage, visits_at, visits_below};
+ghost use Rattle.change_model.specs.Visits.{before, closed, most_usage, visits_at, visits_below};
 ghost use Rattle.node_codec.specs.Meanings.{children_in, value_of};
 ghost use Rattle.update_model.specs.Joins as kid;
 ghost use Rattle.update_model.specs.Tops.{lowered};
@@ -12,13 +12,14 @@ ghost use Rattle.update_model.specs.Updates.{branch_outcome, fork_outcome, laid,
 ghost use Rattle.trie_update.specs.Accounts.{CanCount, GrowsBy, IsNamed};
 ghost use Rattle.trie_update.specs.Carries.{Carries};
 ghost use Rattle.trie_update.specs.ChangesAt.{AreChangesAt, Lent, changes_at, value_lent};
+ghost use Rattle.trie_update.specs.Formers.{IsFormer};
 ghost use Rattle.trie_update.specs.Places.{FitsFormer, FitsParent, FitsTop, Keeps, NoBranch, Reaches, TopKeeps, led_by, old_past, place_behind, place_of, place_visits, seen_past, top_stated, top_visits};
 ghost use Rattle.trie_update.specs.Placed.{IsChild, IsParted, IsPlaced, branch_inside, kid_before, run_at};
 ghost use Rattle.trie_update.specs.Subs.{childless, kid_of, top_of_sub};
 ghost use Rattle.trie_update.specs.declared.errors.UpdateError.TheVariants.{NoMemory};
 
 use crate::errors::UpdateError;
-use crate::former::{Former, Parent};
+use crate::former::{Former, FormerBranch, Parent};
 use crate::joining::{Child, Left, join, known, no_children, under};
 use crate::ledger::Ledger;
 use crate::merging::settle;
@@ -83,9 +84,16 @@ pub(crate) fn at_digest<T: Texts>(
                 alloc, store, ledger, digest, &old, stated, own, changes, depth,
             )
         }
-        Node::Branch { value, kids } => at_branch(
-            alloc, store, ledger, digest, value, &kids, stated, own, changes, depth,
-        ),
+        Node::Branch { value, kids } => {
+            let former = FormerBranch {
+                digest,
+                value: &value,
+                kids: &kids,
+                stated,
+                own,
+            };
+            at_branch(alloc, store, ledger, &former, changes, depth)
+        }
     }
 }
 
@@ -254,7 +262,7 @@ fn at_fork<T: Texts>(
     }
     let parent = Parent::Path(*old, shared);
     let (left, stated) = at_nibbles(alloc, store, ledger, value, &parent, changes, depth)?;
-    let sub = join(alloc, ledger, left, 0)?;
+    let sub = join(alloc, ledger, None, left, 0)?;
     Ok(Placed { sub, stated })
 }
 
@@ -279,17 +287,13 @@ fn value_alone(
     Ok(no_children(alloc, value))
 }
 
-/// A branch that was read, whose record states so much.
+/// A branch that was read.
 #[cycle(update)]
 fn at_branch<T: Texts>(
     alloc: Global,
     store: &mut T,
     ledger: &mut Ledger,
-    digest: &Digest,
-    value: Option<ValueRef>,
-    kids: &Kids,
-    stated: u64,
-    own: u64,
+    former: &FormerBranch<'_>,
     changes: &[KeyChange<'_>],
     depth: u64,
 ) -> Result<Placed, UpdateError>
@@ -299,21 +303,22 @@ fn at_branch<T: Texts>(
     requires room { CanCount ledger.old (length changes.now) }
     requires named { IsNamed ledger.old }
     requires deep { depth + 1 ≤ longest_path }
-    requires most { stated ≤ most_usage }
-    requires own { own ≡ branch_cost (option_map value_of value) }
-    requires small { IfSome value (λ v. v.length ≤ longest_value) }
-    ensures carries { (children : ℕ → Seen) → ((x : ℕ) → x < 16 → children x ≡ seen_child (seen_at (T.store.texts store.old) (depth + 1) false) (children_in kids.now x)) →
-        Carries T.store store.old store.new (branch_inside digest.now.0 stated (option_map value_of value) children (changes_at depth changes.now)) result }
-    ensures placed { (children : ℕ → Seen) → ((x : ℕ) → x < 16 → children x ≡ seen_child (seen_at (T.store.texts store.old) (depth + 1) false) (children_in kids.now x)) →
-        IfOk result (λ placed. IsPlaced (branch_outcome stated (option_map value_of value) children (changes_at depth changes.now) (λ x. updated (children x) (run_at (changes_at depth changes.now) x))) stated (length changes.now) ledger.old ledger.new placed) }
-    ensures keeps { (children : ℕ → Seen) → ((x : ℕ) → x < 16 → children x ≡ seen_child (seen_at (T.store.texts store.old) (depth + 1) false) (children_in kids.now x)) →
-        OnOk result (Keeps depth (branch digest.now.0 stated (option_map value_of value) children) (changes_at depth changes.now)) }
+    requires former { IsFormer former.now }
+    ensures carries { (children : ℕ → Seen) → ((x : ℕ) → x < 16 → children x ≡ seen_child (seen_at (T.store.texts store.old) (depth + 1) false) (children_in former.now.kids.now x)) →
+        Carries T.store store.old store.new (branch_inside former.now.digest.now.0 former.now.stated (option_map value_of former.now.value.now) children (changes_at depth changes.now)) result }
+    ensures placed { (children : ℕ → Seen) → ((x : ℕ) → x < 16 → children x ≡ seen_child (seen_at (T.store.texts store.old) (depth + 1) false) (children_in former.now.kids.now x)) →
+        IfOk result (λ placed. IsPlaced (branch_outcome former.now.stated (option_map value_of former.now.value.now) children (changes_at depth changes.now) (λ x. updated (children x) (run_at (changes_at depth changes.now) x))) former.now.stated (length changes.now) ledger.old ledger.new placed) }
+    ensures keeps { (children : ℕ → Seen) → ((x : ℕ) → x < 16 → children x ≡ seen_child (seen_at (T.store.texts store.old) (depth + 1) false) (children_in former.now.kids.now x)) →
+        OnOk result (Keeps depth (branch former.now.digest.now.0 former.now.stated (option_map value_of former.now.value.now) children) (changes_at depth changes.now)) }
 {
-    let parent = Parent::Branch(kids);
-    let (left, below) = at_nibbles(alloc, store, ledger, value, &parent, changes, depth)?;
-    let above = own.saturating_add(below);
-    let sub = settle(alloc, store, ledger, digest, left, stated, above, depth + 1)?;
-    Ok(Placed { sub, stated })
+    let parent = Parent::Branch(former.kids);
+    let (left, below) = at_nibbles(alloc, store, ledger, *former.value, &parent, changes, depth)?;
+    let above = former.own.saturating_add(below);
+    let sub = settle(alloc, store, ledger, former, left, above, depth + 1)?;
+    Ok(Placed {
+        sub,
+        stated: former.stated,
+    })
 }
 
 /// What is left behind the nibbles, and what the places there stated that were visited.

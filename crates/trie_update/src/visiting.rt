@@ -1,5 +1,7 @@
 ghost use Rattle.std.specs.Prelude.{◌≡◌, ◌≤◌, ◌<◌, ℕ, [], ◌∷◌, IfOk, OnOk, OnErr, IfErr, ⊤};
+ghost use Rattle.sha2.specs.Sha256.{sha256};
 ghost use Rattle.byte_model.specs.Nibbles.{AreNibbles};
+ghost use Rattle.byte_model.specs.Node.{spelled};
 ghost use Rattle.byte_model.specs.PackedPath.{longest_path};
 ghost use Rattle.byte_model.specs.Laws.{SameNode};
 ghost use Rattle.node_codec.specs.Children.{children_viewed};
@@ -40,6 +42,7 @@ pub(crate) fn visit<T: Texts>(
 ) -> Result<Visited, UpdateError>
     ensures left { Leaves T.store store.old store.new (digest.now.0 ∷ []) (update_ended result) }
     ensures answer { AnswersVisit (T.store.texts store.old) digest.now depth after_extension result }
+    ensures record { IfOk result (λ visited. digest.now.0 ≡ sha256 (spelled (node_of visited.node) visited.stated)) }
 {
     match store.load(digest) {
         Err(Fault) => Err(UpdateError::Fault),
@@ -55,7 +58,8 @@ fn node_in(
     depth: u64,
     after_extension: bool,
 ) -> Result<Visited, UpdateError>
-    ensures { AnswersNode text.now digest.now depth after_extension result }
+    ensures answer { AnswersNode text.now digest.now depth after_extension result }
+    ensures record { IfOk result (λ visited. text.now ≡ spelled (node_of visited.node) visited.stated) }
 {
     let Some((view, stated)) = fitting_node(text, depth, after_extension) else {
         return Err(UpdateError::Bad { digest: *digest });

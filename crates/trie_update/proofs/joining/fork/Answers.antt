@@ -1,4 +1,4 @@
-use Rattle.std.proofs.Common.{◌≡◌, ◌+◌, ◌≤◌, ◌^◌, set, option_map, Err, ap, sym, subst, ◌∙◌, arith}
+use Rattle.std.proofs.Common.{◌≡◌, ◌+◌, ◌<◌, ◌^◌, set, option_map, ap, sym, subst, ◌∙◌, arith}
 use Rattle.std.proofs.lemmas.Result.{IfOk-weaker, on_ok_weaker}
 use Rattle.byte_model.specs.Node as node
 use Rattle.byte_model.specs.Node.{IsShaped, own_cost}
@@ -35,26 +35,26 @@ loop-nibble-preserved c =
     let kids = c.set.ensures.value ∙ ap (λ kids. set kids c.loop-nibble.nibble c.in_ok-name.name) c.deref_mut.ensures.value in
     subst (λ kids. IsNaming c.args.children.items (c.loop-nibble.nibble + 1) c.next_name.new.children.items kids c.args.kept_usage (c.loop-nibble.usage + c.in_ok-name.used) c.args.ledger.now c.next_name.new.ledger) (sym kids) more
 
-pub close_branch-requires : goal.close_branch-requires
-close_branch-requires c =
+pub close-requires-clause-shaped : goal.close-requires-clause-shaped
+close-requires-clause-shaped c =
     let done : c.loop-nibble.nibble ≡ 16 = omega arith in
     subst (λ kids. IsShaped (node.branch (option_map value_of c.args.value) (children_in kids))) (sym c.deref.ensures) (end-shaped (option_map value_of c.args.value) c.args.children.items c.loop-nibble.nibble c.loop-nibble.rest.items c.loop-nibble.kids.value c.args.kept_usage c.loop-nibble.usage c.args.ledger.now c.loop-nibble.ledger c.loop-nibble.invariant done c.requires.forks)
 
-pub unreachable-requires : goal.unreachable-requires
-unreachable-requires c =
+pub close-requires-clause-fits : goal.close-requires-clause-fits
+close-requires-clause-fits c =
     let done : c.loop-nibble.nibble ≡ 16 = omega arith in
-    let past = subst (λ kids. 2 ^ 64 ≤ own_cost (node.branch (option_map value_of c.args.value) (children_in kids)) + c.loop-nibble.usage) c.deref.ensures (c.close_branch.ensures.usage.0 (c.in-Err-Usage.is ∙ ap Err c.in-Err-Usage.field-0-is)) in
-    let fits = end-fits (option_map value_of c.args.value) c.args.children.items c.loop-nibble.nibble c.loop-nibble.rest.items c.loop-nibble.kids.value c.args.kept_usage c.loop-nibble.usage c.args.ledger.now c.loop-nibble.ledger c.loop-nibble.invariant done c.requires.forks in
-    absurd (omega arith)
+    subst (λ kids. own_cost (node.branch (option_map value_of c.args.value) (children_in kids)) + c.loop-nibble.usage < 2 ^ 64) (sym c.deref.ensures) (end-fits (option_map value_of c.args.value) c.args.children.items c.loop-nibble.nibble c.loop-nibble.rest.items c.loop-nibble.kids.value c.args.kept_usage c.loop-nibble.usage c.args.ledger.now c.loop-nibble.ledger c.loop-nibble.invariant done c.requires.forks)
 
-pub returns-in-Ok-clause-top : goal.returns-in-Ok-clause-top
-returns-in-Ok-clause-top c =
+pub returns-clause-top : goal.returns-clause-top
+returns-clause-top c =
     let done : c.loop-nibble.nibble ≡ 16 = omega arith in
-    let is = subst (λ kids. IsRecord c.in-Ok.closed (node.branch (option_map value_of c.args.value) (children_in kids)) (own_cost (node.branch (option_map value_of c.args.value) (children_in kids)) + c.loop-nibble.usage)) c.deref.ensures c.in-Ok.ensures.written in
-    IfOk-weaker c.branch_written.result _ _ (λ sub e. ap top_of_sub e ∙ end-top (option_map value_of c.args.value) c.args.children.items c.loop-nibble.nibble c.loop-nibble.rest.items c.loop-nibble.kids.value c.args.kept_usage c.loop-nibble.usage c.args.ledger.now c.loop-nibble.ledger c.loop-nibble.invariant done c.requires.forks c.in-Ok.closed is) c.branch_written.ensures.branch
+    let closed = c.in_ok-closed.closed in
+    let is = subst (λ kids. IsRecord closed (node.branch (option_map value_of c.args.value) (children_in kids)) (own_cost (node.branch (option_map value_of c.args.value) (children_in kids)) + c.loop-nibble.usage)) c.deref.ensures c.in_ok-closed.ensures.written in
+    IfOk-weaker c.branch_written.result _ _ (λ sub e. ap top_of_sub e ∙ end-top (option_map value_of c.args.value) c.args.children.items c.loop-nibble.nibble c.loop-nibble.rest.items c.loop-nibble.kids.value c.args.kept_usage c.loop-nibble.usage c.args.ledger.now c.loop-nibble.ledger c.loop-nibble.invariant done c.requires.forks closed is) c.branch_written.ensures.branch
 
-pub returns-in-Ok-clause-adds : goal.returns-in-Ok-clause-adds
-returns-in-Ok-clause-adds c =
+pub returns-clause-adds : goal.returns-clause-adds
+returns-clause-adds c =
     let done : c.loop-nibble.nibble ≡ 16 = omega arith in
-    let is = subst (λ kids. IsRecord c.in-Ok.closed (node.branch (option_map value_of c.args.value) (children_in kids)) (own_cost (node.branch (option_map value_of c.args.value) (children_in kids)) + c.loop-nibble.usage)) c.deref.ensures c.in-Ok.ensures.written in
-    on_ok_weaker c.branch_written.result (λ gains. end-adds (option_map value_of c.args.value) c.args.children.items c.loop-nibble.nibble c.loop-nibble.rest.items c.loop-nibble.kids.value c.args.kept_usage c.loop-nibble.usage c.args.ledger.now c.loop-nibble.ledger c.loop-nibble.invariant done c.requires.forks c.in-Ok.closed c.branch_written.new.ledger is (adds-gained c.loop-nibble.ledger c.branch_written.new.ledger c.in-Ok.closed.digest c.in-Ok.closed.text is.digest gains)) c.branch_written.ensures.gains
+    let closed = c.in_ok-closed.closed in
+    let is = subst (λ kids. IsRecord closed (node.branch (option_map value_of c.args.value) (children_in kids)) (own_cost (node.branch (option_map value_of c.args.value) (children_in kids)) + c.loop-nibble.usage)) c.deref.ensures c.in_ok-closed.ensures.written in
+    on_ok_weaker c.branch_written.result (λ gains. end-adds (option_map value_of c.args.value) c.args.children.items c.loop-nibble.nibble c.loop-nibble.rest.items c.loop-nibble.kids.value c.args.kept_usage c.loop-nibble.usage c.args.ledger.now c.loop-nibble.ledger c.loop-nibble.invariant done c.requires.forks closed c.branch_written.new.ledger is (adds-gained c.loop-nibble.ledger c.branch_written.new.ledger closed.digest closed.text is.digest gains)) c.branch_written.ensures.gains

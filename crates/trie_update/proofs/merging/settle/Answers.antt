@@ -28,7 +28,7 @@ returns-in_err-left-clause-carries g c =
     let merged = lone_named ref (kid_at items) in
     let new = c.merge.new.store in
     let first = merge_visits seen merged in
-    let second = closed c.args.digest.now.0 c.args.stated (c.args.above + merge_usage seen merged) in
+    let second = closed c.args.former.now.digest.now.0 c.args.former.now.stated (c.args.above + merge_usage seen merged) in
     carries-passed store old new (before first second) c.in_err-left.field-0.0 c.from_residual.result c.from_residual.ensures.1
     (carries-stopped store {X = Left × ℕ} {Y = Sub} old new first second c.in_err-left.field-0.0 c.in_err-left.ensures.carries)
 
@@ -45,15 +45,15 @@ returns-in_err-states_enough-clause-carries g c =
     let new = c.merge.new.store in
     let first = merge_visits seen merged in
     let parts = c.args.above + merge_usage seen merged in
-    let second = closed c.args.digest.now.0 c.args.stated parts in
+    let second = closed c.args.former.now.digest.now.0 c.args.former.now.stated parts in
     let is = c.in_ok-left.ensures.merged in
     let stated = is.stated in
     let sum = c.saturating_add-parts.ensures in
-    let most = c.requires.most in
+    let most = c.requires.former.most in
     let less = c.in_err-states_enough.ensures.less in
-    let fewer : c.args.stated < c.args.above + merge_usage seen merged = (let l = less.1 in omega arith) in
-    let all = carries-then store {X = Left × ℕ} {Y = Sub} g.met.T.Texts.alike_onward old new new first second (c.in_ok-left.left, c.in_ok-left.merged) _ c.in_ok-left.ensures.carries (carries-less store {X = Sub} new c.args.digest.now c.args.stated parts (g.met.T.Texts.alike_itself new) fewer) in
-    carries-passed store {X = Sub} {Y = Sub} old new (before first second) (Usage c.args.digest.now) c.from_residual-in_err-states_enough.result
+    let fewer : c.args.former.now.stated < c.args.above + merge_usage seen merged = (let l = less.1 in omega arith) in
+    let all = carries-then store {X = Left × ℕ} {Y = Sub} g.met.T.Texts.alike_onward old new new first second (c.in_ok-left.left, c.in_ok-left.merged) _ c.in_ok-left.ensures.carries (carries-less store {X = Sub} new c.args.former.now.digest.now c.args.former.now.stated parts (g.met.T.Texts.alike_itself new) fewer) in
+    carries-passed store {X = Sub} {Y = Sub} old new (before first second) (Usage c.args.former.now.digest.now) c.from_residual-in_err-states_enough.result
     (subst (λ e. IsErrAnd c.from_residual-in_err-states_enough.result (λ given. given ≡ e)) less.0 c.from_residual-in_err-states_enough.ensures.1) all
 
 pub join-requires-clause-joins : goal.join-requires-clause-joins
@@ -69,18 +69,18 @@ join-requires-clause-joins g c =
     let new = c.merge.new.store in
     let first = merge_visits seen merged in
     let parts = c.args.above + merge_usage seen merged in
-    let second = closed c.args.digest.now.0 c.args.stated parts in
+    let second = closed c.args.former.now.digest.now.0 c.args.former.now.stated parts in
     let is = c.in_ok-left.ensures.merged in
     let stated = is.stated in
     let sum = c.saturating_add-parts.ensures in
-    let most = c.requires.most in
+    let most = c.requires.former.most in
     let enough = c.in_ok-states_enough.ensures.enough in
-    let fewer : c.args.above + merge_usage seen merged ≤ c.args.stated = omega arith in
-    let used : c.args.stated - c.saturating_add-parts.result ≡ c.args.stated - (c.args.above + merge_usage seen merged) = omega arith in
+    let fewer : c.args.above + merge_usage seen merged ≤ c.args.former.now.stated = omega arith in
+    let used : c.args.former.now.stated - c.saturating_add-parts.result ≡ c.args.former.now.stated - (c.args.above + merge_usage seen merged) = omega arith in
     let can = c.requires.joins c.in_ok-left.ensures.carries.answer is.stands fewer in
     subst (λ n. CanJoin (option_map value_of c.in_ok-left.left.value) (kid_at c.in_ok-left.left.children.items) n) (sym used)
-    (subst (λ v. CanJoin (option_map value_of v) (kid_at c.in_ok-left.left.children.items) (c.args.stated - (c.args.above + merge_usage seen merged))) (sym is.value)
-    (can-join-agree ref (kid_at c.in_ok-left.left.children.items) (merged_kids merged seen kids) (c.args.stated - (c.args.above + merge_usage seen merged)) is.kids can))
+    (subst (λ v. CanJoin (option_map value_of v) (kid_at c.in_ok-left.left.children.items) (c.args.former.now.stated - (c.args.above + merge_usage seen merged))) (sym is.value)
+    (can-join-agree ref (kid_at c.in_ok-left.left.children.items) (merged_kids merged seen kids) (c.args.former.now.stated - (c.args.above + merge_usage seen merged)) is.kids can))
 
 pub returns-clause-carries : goal.returns-clause-carries
 returns-clause-carries g c =
@@ -95,15 +95,15 @@ returns-clause-carries g c =
     let new = c.merge.new.store in
     let first = merge_visits seen merged in
     let parts = c.args.above + merge_usage seen merged in
-    let second = closed c.args.digest.now.0 c.args.stated parts in
+    let second = closed c.args.former.now.digest.now.0 c.args.former.now.stated parts in
     let is = c.in_ok-left.ensures.merged in
     let stated = is.stated in
     let sum = c.saturating_add-parts.ensures in
-    let most = c.requires.most in
+    let most = c.requires.former.most in
     let enough = c.in_ok-states_enough.ensures.enough in
-    let fewer : c.args.above + merge_usage seen merged ≤ c.args.stated = omega arith in
-    let used : c.args.stated - c.saturating_add-parts.result ≡ c.args.stated - (c.args.above + merge_usage seen merged) = omega arith in
-    let all = carries-then store {X = Left × ℕ} {Y = ℕ} g.met.T.Texts.alike_onward old new new first second (c.in_ok-left.left, c.in_ok-left.merged) _ c.in_ok-left.ensures.carries (carries-closed store {X = ℕ} new c.args.digest.now.0 c.args.stated parts 0 (g.met.T.Texts.alike_itself new) fewer) in
+    let fewer : c.args.above + merge_usage seen merged ≤ c.args.former.now.stated = omega arith in
+    let used : c.args.former.now.stated - c.saturating_add-parts.result ≡ c.args.former.now.stated - (c.args.above + merge_usage seen merged) = omega arith in
+    let all = carries-then store {X = Left × ℕ} {Y = ℕ} g.met.T.Texts.alike_onward old new new first second (c.in_ok-left.left, c.in_ok-left.merged) _ c.in_ok-left.ensures.carries (carries-closed store {X = ℕ} new c.args.former.now.digest.now.0 c.args.former.now.stated parts 0 (g.met.T.Texts.alike_itself new) fewer) in
     carries-end store {X = ℕ} {Y = Sub} old new (before first second) 0 c.join.result c.join.ensures.error all
 
 pub returns-clause-top : goal.returns-clause-top
@@ -119,17 +119,17 @@ returns-clause-top g c =
     let new = c.merge.new.store in
     let first = merge_visits seen merged in
     let parts = c.args.above + merge_usage seen merged in
-    let second = closed c.args.digest.now.0 c.args.stated parts in
+    let second = closed c.args.former.now.digest.now.0 c.args.former.now.stated parts in
     let is = c.in_ok-left.ensures.merged in
     let stated = is.stated in
     let sum = c.saturating_add-parts.ensures in
-    let most = c.requires.most in
+    let most = c.requires.former.most in
     let enough = c.in_ok-states_enough.ensures.enough in
-    let fewer : c.args.above + merge_usage seen merged ≤ c.args.stated = omega arith in
-    let used : c.args.stated - c.saturating_add-parts.result ≡ c.args.stated - (c.args.above + merge_usage seen merged) = omega arith in
+    let fewer : c.args.above + merge_usage seen merged ≤ c.args.former.now.stated = omega arith in
+    let used : c.args.former.now.stated - c.saturating_add-parts.result ≡ c.args.former.now.stated - (c.args.above + merge_usage seen merged) = omega arith in
     let left = c.in_ok-left.left in
-    let joins : joint (option_map value_of left.value) (kid_at left.children.items) (c.args.stated - c.saturating_add-parts.result) ≡ joint ref (merged_kids merged seen kids) (c.args.stated - (c.args.above + merge_usage seen merged)) =
-    ap₂ (λ (v : Option ValueRef) (n : ℕ). joint (option_map value_of v) (kid_at left.children.items) n) is.value used ∙ joint-agree ref (kid_at left.children.items) (merged_kids merged seen kids) (c.args.stated - (c.args.above + merge_usage seen merged)) is.kids in
+    let joins : joint (option_map value_of left.value) (kid_at left.children.items) (c.args.former.now.stated - c.saturating_add-parts.result) ≡ joint ref (merged_kids merged seen kids) (c.args.former.now.stated - (c.args.above + merge_usage seen merged)) =
+    ap₂ (λ (v : Option ValueRef) (n : ℕ). joint (option_map value_of v) (kid_at left.children.items) n) is.value used ∙ joint-agree ref (kid_at left.children.items) (merged_kids merged seen kids) (c.args.former.now.stated - (c.args.above + merge_usage seen merged)) is.kids in
     IfOk-weaker c.join.result _ _ (λ sub e. e ∙ ap (λ (j : Joint). j.top) joins) c.join.ensures.top
 
 pub returns-clause-adds : goal.returns-clause-adds
@@ -145,18 +145,18 @@ returns-clause-adds g c =
     let new = c.merge.new.store in
     let first = merge_visits seen merged in
     let parts = c.args.above + merge_usage seen merged in
-    let second = closed c.args.digest.now.0 c.args.stated parts in
+    let second = closed c.args.former.now.digest.now.0 c.args.former.now.stated parts in
     let is = c.in_ok-left.ensures.merged in
     let stated = is.stated in
     let sum = c.saturating_add-parts.ensures in
-    let most = c.requires.most in
+    let most = c.requires.former.most in
     let enough = c.in_ok-states_enough.ensures.enough in
-    let fewer : c.args.above + merge_usage seen merged ≤ c.args.stated = omega arith in
-    let used : c.args.stated - c.saturating_add-parts.result ≡ c.args.stated - (c.args.above + merge_usage seen merged) = omega arith in
+    let fewer : c.args.above + merge_usage seen merged ≤ c.args.former.now.stated = omega arith in
+    let used : c.args.former.now.stated - c.saturating_add-parts.result ≡ c.args.former.now.stated - (c.args.above + merge_usage seen merged) = omega arith in
     let left = c.in_ok-left.left in
-    let joins : joint (option_map value_of left.value) (kid_at left.children.items) (c.args.stated - c.saturating_add-parts.result) ≡ joint ref (merged_kids merged seen kids) (c.args.stated - (c.args.above + merge_usage seen merged)) =
-    ap₂ (λ (v : Option ValueRef) (n : ℕ). joint (option_map value_of v) (kid_at left.children.items) n) is.value used ∙ joint-agree ref (kid_at left.children.items) (merged_kids merged seen kids) (c.args.stated - (c.args.above + merge_usage seen merged)) is.kids in
+    let joins : joint (option_map value_of left.value) (kid_at left.children.items) (c.args.former.now.stated - c.saturating_add-parts.result) ≡ joint ref (merged_kids merged seen kids) (c.args.former.now.stated - (c.args.above + merge_usage seen merged)) =
+    ap₂ (λ (v : Option ValueRef) (n : ℕ). joint (option_map value_of v) (kid_at left.children.items) n) is.value used ∙ joint-agree ref (kid_at left.children.items) (merged_kids merged seen kids) (c.args.former.now.stated - (c.args.above + merge_usage seen merged)) is.kids in
     on_ok_weaker c.join.result (λ adds.
-    let both = adds-then c.args.ledger.now c.merge.new.ledger c.join.new.ledger [] (merged_lost merged seen) 0 0 (joint (option_map value_of left.value) (kid_at left.children.items) (c.args.stated - c.saturating_add-parts.result)).made [] 0 0 is.adds adds in
-    adds-same c.args.ledger.now c.join.new.ledger ([] ++ (joint (option_map value_of left.value) (kid_at left.children.items) (c.args.stated - c.saturating_add-parts.result)).made) (merged_lost merged seen ++ []) (0 + 0) (0 + 0) (joint ref (merged_kids merged seen kids) (c.args.stated - (c.args.above + merge_usage seen merged))).made (merged_lost merged seen) 0 0
+    let both = adds-then c.args.ledger.now c.merge.new.ledger c.join.new.ledger [] (merged_lost merged seen) 0 0 (joint (option_map value_of left.value) (kid_at left.children.items) (c.args.former.now.stated - c.saturating_add-parts.result)).made [] 0 0 is.adds adds in
+    adds-same c.args.ledger.now c.join.new.ledger ([] ++ (joint (option_map value_of left.value) (kid_at left.children.items) (c.args.former.now.stated - c.saturating_add-parts.result)).made) (merged_lost merged seen ++ []) (0 + 0) (0 + 0) (joint ref (merged_kids merged seen kids) (c.args.former.now.stated - (c.args.above + merge_usage seen merged))).made (merged_lost merged seen) 0 0
     (ap (λ (j : Joint). j.made) joins) (append-nil (merged_lost merged seen)) (omega arith) (omega arith) both) c.join.ensures.adds

@@ -31,6 +31,7 @@ use Rattle.trie_update.specs.Merges.{CanSettle, MergedStands, lone_named, seen_k
 use Rattle.trie_update.specs.Subs.{kid_at, top_of_sub}
 use Rattle.trie_update.proofs.BranchCalls.{branch-carries, branch-keeps, branch-placed, branch-places, branch-settles, branch-stopped, small-mapped}
 use Rattle.trie_update.proofs.Digests.{copy-old, extension-old, leaf-old, lose-named, lose-room, old-carries, old-keeps, old-placed, opened-short, opens-first, value-small, visited-carries, visited-children, visited-keeps, visited-placed}
+use Rattle.trie_update.proofs.Formers.{record-read}
 use Rattle.trie_update.proofs.SeenVisits.{SeesBranch, sees-visited}
 use Rattle.trie_update.proofs.updating.+update.Goals as goal
 use Rattle.trie_update.proofs.ChangesAt.{changes-some, lent-deep, length-changes_at}
@@ -43,12 +44,12 @@ at_branch-returns-in_err-left-clause-carries g t c = λ children are.
     let mid = c.at_nibbles.new.store in
     let changes = c.args.changes.now in
     let cs = changes_at c.args.depth changes in
-    let ref = option_map value_of c.args.value in
-    let names = children_in c.args.kids.now in
+    let ref = option_map value_of c.args.former.now.value.now in
+    let names = children_in c.args.former.now.kids.now in
     let below_it = below-changes_at c.args.depth changes c.requires.changes in
     let more = changes-some c.args.depth changes c.requires.some in
-    carries-passed store {X = Placed} {Y = Placed} old mid (branch_inside c.args.digest.now.0 c.args.stated ref children cs) c.in_err-left.field-0.0 c.from_residual.result c.from_residual.ensures.1
-    (branch-stopped table c.args.depth ref names children are cs below_it more _ (branch-places table c.args.depth _) {X = Left × ℕ} {Y = Placed} store old mid c.args.digest.now.0 c.args.stated c.in_err-left.field-0.0 c.in_err-left.ensures.carries)
+    carries-passed store {X = Placed} {Y = Placed} old mid (branch_inside c.args.former.now.digest.now.0 c.args.former.now.stated ref children cs) c.in_err-left.field-0.0 c.from_residual.result c.from_residual.ensures.1
+    (branch-stopped table c.args.depth ref names children are cs below_it more _ (branch-places table c.args.depth _) {X = Left × ℕ} {Y = Placed} store old mid c.args.former.now.digest.now.0 c.args.former.now.stated c.in_err-left.field-0.0 c.in_err-left.ensures.carries)
 
 pub at_branch-settle-requires-clause-joins : goal.at_branch-settle-requires-clause-joins
 at_branch-settle-requires-clause-joins g t c =
@@ -58,13 +59,13 @@ at_branch-settle-requires-clause-joins g t c =
     let mid = c.at_nibbles.new.store in
     let changes = c.args.changes.now in
     let cs = changes_at c.args.depth changes in
-    let ref = option_map value_of c.args.value in
-    let names = children_in c.args.kids.now in
+    let ref = option_map value_of c.args.former.now.value.now in
+    let names = children_in c.args.former.now.kids.now in
     let below_it = below-changes_at c.args.depth changes c.requires.changes in
     let more = changes-some c.args.depth changes c.requires.some in
     let long = length-changes_at c.args.depth changes in
     let few : length cs ≤ most_changes = (let f = c.requires.few in omega arith) in
-    let short = small-mapped c.args.value c.requires.small in
+    let short = small-mapped c.args.former.now.value.now c.requires.former.small in
     let left = c.in_ok-left.left in
     let told = c.in_ok-left.below in
     let value = option_map value_of left.value in
@@ -72,7 +73,7 @@ at_branch-settle-requires-clause-joins g t c =
     let above = c.saturating_add-above.result in
     let texts = g.met.T.Texts.alike_texts old mid c.in_ok-left.ensures.carries.left.same in
     let children : ℕ → Seen = λ x. seen_child (seen_at table (c.args.depth + 1) false) (names x) in
-    subst (λ tb. CanSettle tb (c.args.depth + 1) value kids c.args.stated above) texts (branch-settles table c.args.depth ref names children (λ x small. refl) cs below_it more _ (branch-places table c.args.depth _) c.args.ledger.now c.at_nibbles.new.ledger left told c.in_ok-left.ensures.parted c.args.own above c.args.stated c.requires.own c.saturating_add-above.ensures c.requires.most short few)
+    subst (λ tb. CanSettle tb (c.args.depth + 1) value kids c.args.former.now.stated above) texts (branch-settles table c.args.depth ref names children (λ x small. refl) cs below_it more _ (branch-places table c.args.depth _) c.args.ledger.now c.at_nibbles.new.ledger left told c.in_ok-left.ensures.parted c.args.former.now.own above c.args.former.now.stated c.requires.former.own c.saturating_add-above.ensures c.requires.former.most short few)
 
 pub at_branch-returns-in_err-sub-clause-carries : goal.at_branch-returns-in_err-sub-clause-carries
 at_branch-returns-in_err-sub-clause-carries g t c = λ children are.
@@ -82,13 +83,13 @@ at_branch-returns-in_err-sub-clause-carries g t c = λ children are.
     let mid = c.at_nibbles.new.store in
     let changes = c.args.changes.now in
     let cs = changes_at c.args.depth changes in
-    let ref = option_map value_of c.args.value in
-    let names = children_in c.args.kids.now in
+    let ref = option_map value_of c.args.former.now.value.now in
+    let names = children_in c.args.former.now.kids.now in
     let below_it = below-changes_at c.args.depth changes c.requires.changes in
     let more = changes-some c.args.depth changes c.requires.some in
     let long = length-changes_at c.args.depth changes in
     let few : length cs ≤ most_changes = (let f = c.requires.few in omega arith) in
-    let short = small-mapped c.args.value c.requires.small in
+    let short = small-mapped c.args.former.now.value.now c.requires.former.small in
     let left = c.in_ok-left.left in
     let told = c.in_ok-left.below in
     let value = option_map value_of left.value in
@@ -96,10 +97,10 @@ at_branch-returns-in_err-sub-clause-carries g t c = λ children are.
     let above = c.saturating_add-above.result in
     let texts = g.met.T.Texts.alike_texts old mid c.in_ok-left.ensures.carries.left.same in
     let new = c.settle.new.store in
-    let settled = λ (result : Result Sub UpdateError) (h : Carries {X = Sub} store mid new (before (merge_visits (seen_kids (store.texts mid) (c.args.depth + 1) kids) (lone_named value kids)) (closed c.args.digest.now.0 c.args.stated (above + merge_usage (seen_kids (store.texts mid) (c.args.depth + 1) kids) (lone_named value kids)))) result).
-    subst (λ tb. Carries {X = Sub} store mid new (before (merge_visits (seen_kids tb (c.args.depth + 1) kids) (lone_named value kids)) (closed c.args.digest.now.0 c.args.stated (above + merge_usage (seen_kids tb (c.args.depth + 1) kids) (lone_named value kids)))) result) (sym texts) h in
-    carries-passed store {X = Sub} {Y = Placed} old new (branch_inside c.args.digest.now.0 c.args.stated ref children cs) c.in_err-sub.field-0.0 c.from_residual-in_err-sub.result c.from_residual-in_err-sub.ensures.1
-    (branch-carries table c.args.depth ref names children are cs below_it more _ (branch-places table c.args.depth _) c.args.ledger.now c.at_nibbles.new.ledger left told c.in_ok-left.ensures.parted c.args.own above c.args.stated c.requires.own c.saturating_add-above.ensures c.requires.most short few {Y = Sub} store g.met.T.Texts.alike_onward old mid new c.args.digest.now.0 (Err c.in_err-sub.field-0.0) c.in_ok-left.ensures.carries (settled (Err c.in_err-sub.field-0.0) c.in_err-sub.ensures.carries))
+    let settled = λ (result : Result Sub UpdateError) (h : Carries {X = Sub} store mid new (before (merge_visits (seen_kids (store.texts mid) (c.args.depth + 1) kids) (lone_named value kids)) (closed c.args.former.now.digest.now.0 c.args.former.now.stated (above + merge_usage (seen_kids (store.texts mid) (c.args.depth + 1) kids) (lone_named value kids)))) result).
+    subst (λ tb. Carries {X = Sub} store mid new (before (merge_visits (seen_kids tb (c.args.depth + 1) kids) (lone_named value kids)) (closed c.args.former.now.digest.now.0 c.args.former.now.stated (above + merge_usage (seen_kids tb (c.args.depth + 1) kids) (lone_named value kids)))) result) (sym texts) h in
+    carries-passed store {X = Sub} {Y = Placed} old new (branch_inside c.args.former.now.digest.now.0 c.args.former.now.stated ref children cs) c.in_err-sub.field-0.0 c.from_residual-in_err-sub.result c.from_residual-in_err-sub.ensures.1
+    (branch-carries table c.args.depth ref names children are cs below_it more _ (branch-places table c.args.depth _) c.args.ledger.now c.at_nibbles.new.ledger left told c.in_ok-left.ensures.parted c.args.former.now.own above c.args.former.now.stated c.requires.former.own c.saturating_add-above.ensures c.requires.former.most short few {Y = Sub} store g.met.T.Texts.alike_onward old mid new c.args.former.now.digest.now.0 (Err c.in_err-sub.field-0.0) c.in_ok-left.ensures.carries (settled (Err c.in_err-sub.field-0.0) c.in_err-sub.ensures.carries))
 
 pub at_branch-returns-clause-carries : goal.at_branch-returns-clause-carries
 at_branch-returns-clause-carries g t c = λ children are.
@@ -109,13 +110,13 @@ at_branch-returns-clause-carries g t c = λ children are.
     let mid = c.at_nibbles.new.store in
     let changes = c.args.changes.now in
     let cs = changes_at c.args.depth changes in
-    let ref = option_map value_of c.args.value in
-    let names = children_in c.args.kids.now in
+    let ref = option_map value_of c.args.former.now.value.now in
+    let names = children_in c.args.former.now.kids.now in
     let below_it = below-changes_at c.args.depth changes c.requires.changes in
     let more = changes-some c.args.depth changes c.requires.some in
     let long = length-changes_at c.args.depth changes in
     let few : length cs ≤ most_changes = (let f = c.requires.few in omega arith) in
-    let short = small-mapped c.args.value c.requires.small in
+    let short = small-mapped c.args.former.now.value.now c.requires.former.small in
     let left = c.in_ok-left.left in
     let told = c.in_ok-left.below in
     let value = option_map value_of left.value in
@@ -123,10 +124,10 @@ at_branch-returns-clause-carries g t c = λ children are.
     let above = c.saturating_add-above.result in
     let texts = g.met.T.Texts.alike_texts old mid c.in_ok-left.ensures.carries.left.same in
     let new = c.settle.new.store in
-    let settled = λ (result : Result Sub UpdateError) (h : Carries {X = Sub} store mid new (before (merge_visits (seen_kids (store.texts mid) (c.args.depth + 1) kids) (lone_named value kids)) (closed c.args.digest.now.0 c.args.stated (above + merge_usage (seen_kids (store.texts mid) (c.args.depth + 1) kids) (lone_named value kids)))) result).
-    subst (λ tb. Carries {X = Sub} store mid new (before (merge_visits (seen_kids tb (c.args.depth + 1) kids) (lone_named value kids)) (closed c.args.digest.now.0 c.args.stated (above + merge_usage (seen_kids tb (c.args.depth + 1) kids) (lone_named value kids)))) result) (sym texts) h in
-    let whole = branch-carries table c.args.depth ref names children are cs below_it more _ (branch-places table c.args.depth _) c.args.ledger.now c.at_nibbles.new.ledger left told c.in_ok-left.ensures.parted c.args.own above c.args.stated c.requires.own c.saturating_add-above.ensures c.requires.most short few {Y = Sub} store g.met.T.Texts.alike_onward old mid new c.args.digest.now.0 (Ok c.in_ok-sub.sub) c.in_ok-left.ensures.carries (settled (Ok c.in_ok-sub.sub) c.in_ok-sub.ensures.carries) in
-    carries-ok store {X = Sub} {Y = Placed} old new (branch_inside c.args.digest.now.0 c.args.stated ref children cs) c.in_ok-sub.sub _ whole
+    let settled = λ (result : Result Sub UpdateError) (h : Carries {X = Sub} store mid new (before (merge_visits (seen_kids (store.texts mid) (c.args.depth + 1) kids) (lone_named value kids)) (closed c.args.former.now.digest.now.0 c.args.former.now.stated (above + merge_usage (seen_kids (store.texts mid) (c.args.depth + 1) kids) (lone_named value kids)))) result).
+    subst (λ tb. Carries {X = Sub} store mid new (before (merge_visits (seen_kids tb (c.args.depth + 1) kids) (lone_named value kids)) (closed c.args.former.now.digest.now.0 c.args.former.now.stated (above + merge_usage (seen_kids tb (c.args.depth + 1) kids) (lone_named value kids)))) result) (sym texts) h in
+    let whole = branch-carries table c.args.depth ref names children are cs below_it more _ (branch-places table c.args.depth _) c.args.ledger.now c.at_nibbles.new.ledger left told c.in_ok-left.ensures.parted c.args.former.now.own above c.args.former.now.stated c.requires.former.own c.saturating_add-above.ensures c.requires.former.most short few {Y = Sub} store g.met.T.Texts.alike_onward old mid new c.args.former.now.digest.now.0 (Ok c.in_ok-sub.sub) c.in_ok-left.ensures.carries (settled (Ok c.in_ok-sub.sub) c.in_ok-sub.ensures.carries) in
+    carries-ok store {X = Sub} {Y = Placed} old new (branch_inside c.args.former.now.digest.now.0 c.args.former.now.stated ref children cs) c.in_ok-sub.sub _ whole
 
 pub at_branch-returns-clause-placed : goal.at_branch-returns-clause-placed
 at_branch-returns-clause-placed g t c = λ children are.
@@ -136,13 +137,13 @@ at_branch-returns-clause-placed g t c = λ children are.
     let mid = c.at_nibbles.new.store in
     let changes = c.args.changes.now in
     let cs = changes_at c.args.depth changes in
-    let ref = option_map value_of c.args.value in
-    let names = children_in c.args.kids.now in
+    let ref = option_map value_of c.args.former.now.value.now in
+    let names = children_in c.args.former.now.kids.now in
     let below_it = below-changes_at c.args.depth changes c.requires.changes in
     let more = changes-some c.args.depth changes c.requires.some in
     let long = length-changes_at c.args.depth changes in
     let few : length cs ≤ most_changes = (let f = c.requires.few in omega arith) in
-    let short = small-mapped c.args.value c.requires.small in
+    let short = small-mapped c.args.former.now.value.now c.requires.former.small in
     let left = c.in_ok-left.left in
     let told = c.in_ok-left.below in
     let value = option_map value_of left.value in
@@ -150,12 +151,12 @@ at_branch-returns-clause-placed g t c = λ children are.
     let above = c.saturating_add-above.result in
     let texts = g.met.T.Texts.alike_texts old mid c.in_ok-left.ensures.carries.left.same in
     let new = c.settle.new.store in
-    let settled = λ (result : Result Sub UpdateError) (h : Carries {X = Sub} store mid new (before (merge_visits (seen_kids (store.texts mid) (c.args.depth + 1) kids) (lone_named value kids)) (closed c.args.digest.now.0 c.args.stated (above + merge_usage (seen_kids (store.texts mid) (c.args.depth + 1) kids) (lone_named value kids)))) result).
-    subst (λ tb. Carries {X = Sub} store mid new (before (merge_visits (seen_kids tb (c.args.depth + 1) kids) (lone_named value kids)) (closed c.args.digest.now.0 c.args.stated (above + merge_usage (seen_kids tb (c.args.depth + 1) kids) (lone_named value kids)))) result) (sym texts) h in
-    let whole = branch-carries table c.args.depth ref names children are cs below_it more _ (branch-places table c.args.depth _) c.args.ledger.now c.at_nibbles.new.ledger left told c.in_ok-left.ensures.parted c.args.own above c.args.stated c.requires.own c.saturating_add-above.ensures c.requires.most short few {Y = Sub} store g.met.T.Texts.alike_onward old mid new c.args.digest.now.0 (Ok c.in_ok-sub.sub) c.in_ok-left.ensures.carries (settled (Ok c.in_ok-sub.sub) c.in_ok-sub.ensures.carries) in
-    let top = subst (λ tb. top_of_sub c.in_ok-sub.sub ≡ (joint value (merged_kids (lone_named value kids) (seen_kids tb (c.args.depth + 1) kids) kids) (c.args.stated - (above + merge_usage (seen_kids tb (c.args.depth + 1) kids) (lone_named value kids)))).top) (sym texts) c.in_ok-sub.ensures.top in
-    let adds = subst (λ tb. Adds c.at_nibbles.new.ledger c.settle.new.ledger (joint value (merged_kids (lone_named value kids) (seen_kids tb (c.args.depth + 1) kids) kids) (c.args.stated - (above + merge_usage (seen_kids tb (c.args.depth + 1) kids) (lone_named value kids)))).made (merged_lost (lone_named value kids) (seen_kids tb (c.args.depth + 1) kids)) 0 0) (sym texts) c.in_ok-sub.ensures.adds in
-    branch-placed table c.args.depth ref names children are cs below_it more _ (branch-places table c.args.depth _) c.args.ledger.now c.at_nibbles.new.ledger left told c.in_ok-left.ensures.parted c.args.own above c.args.stated c.requires.own c.saturating_add-above.ensures c.requires.most short few c.args.digest.now.0 whole.answer (length changes) c.settle.new.ledger (record { sub = c.in_ok-sub.sub; stated = c.args.stated }) long refl top adds
+    let settled = λ (result : Result Sub UpdateError) (h : Carries {X = Sub} store mid new (before (merge_visits (seen_kids (store.texts mid) (c.args.depth + 1) kids) (lone_named value kids)) (closed c.args.former.now.digest.now.0 c.args.former.now.stated (above + merge_usage (seen_kids (store.texts mid) (c.args.depth + 1) kids) (lone_named value kids)))) result).
+    subst (λ tb. Carries {X = Sub} store mid new (before (merge_visits (seen_kids tb (c.args.depth + 1) kids) (lone_named value kids)) (closed c.args.former.now.digest.now.0 c.args.former.now.stated (above + merge_usage (seen_kids tb (c.args.depth + 1) kids) (lone_named value kids)))) result) (sym texts) h in
+    let whole = branch-carries table c.args.depth ref names children are cs below_it more _ (branch-places table c.args.depth _) c.args.ledger.now c.at_nibbles.new.ledger left told c.in_ok-left.ensures.parted c.args.former.now.own above c.args.former.now.stated c.requires.former.own c.saturating_add-above.ensures c.requires.former.most short few {Y = Sub} store g.met.T.Texts.alike_onward old mid new c.args.former.now.digest.now.0 (Ok c.in_ok-sub.sub) c.in_ok-left.ensures.carries (settled (Ok c.in_ok-sub.sub) c.in_ok-sub.ensures.carries) in
+    let top = subst (λ tb. top_of_sub c.in_ok-sub.sub ≡ (joint value (merged_kids (lone_named value kids) (seen_kids tb (c.args.depth + 1) kids) kids) (c.args.former.now.stated - (above + merge_usage (seen_kids tb (c.args.depth + 1) kids) (lone_named value kids)))).top) (sym texts) c.in_ok-sub.ensures.top in
+    let adds = subst (λ tb. Adds c.at_nibbles.new.ledger c.settle.new.ledger (joint value (merged_kids (lone_named value kids) (seen_kids tb (c.args.depth + 1) kids) kids) (c.args.former.now.stated - (above + merge_usage (seen_kids tb (c.args.depth + 1) kids) (lone_named value kids)))).made (merged_lost (lone_named value kids) (seen_kids tb (c.args.depth + 1) kids)) 0 0) (sym texts) c.in_ok-sub.ensures.adds in
+    branch-placed table c.args.depth ref names children are cs below_it more _ (branch-places table c.args.depth _) c.args.ledger.now c.at_nibbles.new.ledger left told c.in_ok-left.ensures.parted c.args.former.now.own above c.args.former.now.stated c.requires.former.own c.saturating_add-above.ensures c.requires.former.most short few c.args.former.now.digest.now.0 whole.answer (length changes) c.settle.new.ledger (record { sub = c.in_ok-sub.sub; stated = c.args.former.now.stated }) long refl top adds
 
 pub at_branch-returns-clause-keeps : goal.at_branch-returns-clause-keeps
 at_branch-returns-clause-keeps g t c = λ children are.
@@ -165,13 +166,13 @@ at_branch-returns-clause-keeps g t c = λ children are.
     let mid = c.at_nibbles.new.store in
     let changes = c.args.changes.now in
     let cs = changes_at c.args.depth changes in
-    let ref = option_map value_of c.args.value in
-    let names = children_in c.args.kids.now in
+    let ref = option_map value_of c.args.former.now.value.now in
+    let names = children_in c.args.former.now.kids.now in
     let below_it = below-changes_at c.args.depth changes c.requires.changes in
     let more = changes-some c.args.depth changes c.requires.some in
     let long = length-changes_at c.args.depth changes in
     let few : length cs ≤ most_changes = (let f = c.requires.few in omega arith) in
-    let short = small-mapped c.args.value c.requires.small in
+    let short = small-mapped c.args.former.now.value.now c.requires.former.small in
     let left = c.in_ok-left.left in
     let told = c.in_ok-left.below in
     let value = option_map value_of left.value in
@@ -179,12 +180,12 @@ at_branch-returns-clause-keeps g t c = λ children are.
     let above = c.saturating_add-above.result in
     let texts = g.met.T.Texts.alike_texts old mid c.in_ok-left.ensures.carries.left.same in
     let new = c.settle.new.store in
-    let settled = λ (result : Result Sub UpdateError) (h : Carries {X = Sub} store mid new (before (merge_visits (seen_kids (store.texts mid) (c.args.depth + 1) kids) (lone_named value kids)) (closed c.args.digest.now.0 c.args.stated (above + merge_usage (seen_kids (store.texts mid) (c.args.depth + 1) kids) (lone_named value kids)))) result).
-    subst (λ tb. Carries {X = Sub} store mid new (before (merge_visits (seen_kids tb (c.args.depth + 1) kids) (lone_named value kids)) (closed c.args.digest.now.0 c.args.stated (above + merge_usage (seen_kids tb (c.args.depth + 1) kids) (lone_named value kids)))) result) (sym texts) h in
-    let whole = branch-carries table c.args.depth ref names children are cs below_it more _ (branch-places table c.args.depth _) c.args.ledger.now c.at_nibbles.new.ledger left told c.in_ok-left.ensures.parted c.args.own above c.args.stated c.requires.own c.saturating_add-above.ensures c.requires.most short few {Y = Sub} store g.met.T.Texts.alike_onward old mid new c.args.digest.now.0 (Ok c.in_ok-sub.sub) c.in_ok-left.ensures.carries (settled (Ok c.in_ok-sub.sub) c.in_ok-sub.ensures.carries) in
+    let settled = λ (result : Result Sub UpdateError) (h : Carries {X = Sub} store mid new (before (merge_visits (seen_kids (store.texts mid) (c.args.depth + 1) kids) (lone_named value kids)) (closed c.args.former.now.digest.now.0 c.args.former.now.stated (above + merge_usage (seen_kids (store.texts mid) (c.args.depth + 1) kids) (lone_named value kids)))) result).
+    subst (λ tb. Carries {X = Sub} store mid new (before (merge_visits (seen_kids tb (c.args.depth + 1) kids) (lone_named value kids)) (closed c.args.former.now.digest.now.0 c.args.former.now.stated (above + merge_usage (seen_kids tb (c.args.depth + 1) kids) (lone_named value kids)))) result) (sym texts) h in
+    let whole = branch-carries table c.args.depth ref names children are cs below_it more _ (branch-places table c.args.depth _) c.args.ledger.now c.at_nibbles.new.ledger left told c.in_ok-left.ensures.parted c.args.former.now.own above c.args.former.now.stated c.requires.former.own c.saturating_add-above.ensures c.requires.former.most short few {Y = Sub} store g.met.T.Texts.alike_onward old mid new c.args.former.now.digest.now.0 (Ok c.in_ok-sub.sub) c.in_ok-left.ensures.carries (settled (Ok c.in_ok-sub.sub) c.in_ok-sub.ensures.carries) in
     let deep : c.args.depth ≤ longest_path = (let d = c.requires.deep in omega arith) in
     let stands = subst (λ tb. MergedStands (c.args.depth + 1) (lone_named value kids) (seen_kids tb (c.args.depth + 1) kids)) (sym texts) c.in_ok-sub.ensures.stands in
-    branch-keeps table c.args.depth ref names children are cs below_it more _ (branch-places table c.args.depth _) c.args.ledger.now c.at_nibbles.new.ledger left told c.in_ok-left.ensures.parted c.args.own above c.args.stated c.requires.own c.saturating_add-above.ensures c.requires.most short few c.args.digest.now.0 whole.answer deep stands
+    branch-keeps table c.args.depth ref names children are cs below_it more _ (branch-places table c.args.depth _) c.args.ledger.now c.at_nibbles.new.ledger left told c.in_ok-left.ensures.parted c.args.former.now.own above c.args.former.now.stated c.requires.former.own c.saturating_add-above.ensures c.requires.former.most short few c.args.former.now.digest.now.0 whole.answer deep stands
 
 pub at_digest-returns-in_err-node-clause-carries : goal.at_digest-returns-in_err-node-clause-carries
 at_digest-returns-in_err-node-clause-carries g t c =
@@ -236,10 +237,10 @@ at_digest-at_old-requires-in-Extension g t c =
 
 pub at_digest-at_branch-requires : goal.at_digest-at_branch-requires
 at_digest-at_branch-requires g t c =
-    let store = g.T.Texts.store in
-    let copy = copy-old (store.texts c.args.store.now) c.args.depth c.args.after_extension c.args.digest.now c.args.changes.now c.requires.changes c.requires.some c.in_ok-node.field-0 c.in_ok-node.ensures.answer _ c.in-Branch.is in
-    let sees = subst (λ kids. SeesBranch (store.texts c.args.store.now) c.args.depth c.args.after_extension c.args.digest.now c.in_ok-node.field-0 (option_map value_of c.in-Branch.value) (children_in kids)) (sym c.deref.ensures) copy in
-    λ κs h. (search rules, (h, (c.requires.changes, (c.requires.some, (c.requires.few, (lose-room c.args.ledger.now c.lose.new.self c.args.digest.now _ c.in_ok-lose.ensures.loses c.requires.room, (lose-named c.args.ledger.now c.lose.new.self c.args.digest.now c.in_ok-lose.ensures.loses c.requires.named, (sees.room, (sees.most, (sees.own, value-small c.in-Branch.value sees.small))))))))))
+    let copy = copy-old (g.T.Texts.store.texts c.args.store.now) c.args.depth c.args.after_extension c.args.digest.now c.args.changes.now c.requires.changes c.requires.some c.in_ok-node.field-0 c.in_ok-node.ensures.answer _ c.in-Branch.is in
+    let sees = subst (λ kids. SeesBranch (g.T.Texts.store.texts c.args.store.now) c.args.depth c.args.after_extension c.args.digest.now c.in_ok-node.field-0 (option_map value_of c.in-Branch.value) (children_in kids)) (sym c.deref.ensures) copy in
+    let record_is = record-read c.args.digest.now.0 c.in_ok-node.field-0 c.in-Branch.value c.in-Branch.kids c.deref.result.now c.in_ok-node.ensures.record c.in-Branch.is c.deref.ensures in
+    λ κs h. (search rules, (h, (c.requires.changes, (c.requires.some, (c.requires.few, (lose-room c.args.ledger.now c.lose.new.self c.args.digest.now _ c.in_ok-lose.ensures.loses c.requires.room, (lose-named c.args.ledger.now c.lose.new.self c.args.digest.now c.in_ok-lose.ensures.loses c.requires.named, (sees.room, record { digest = record_is; own = sees.own; most = sees.most; small = value-small c.in-Branch.value sees.small }))))))))
 
 pub at_digest-returns-in-Leaf-clause-carries : goal.at_digest-returns-in-Leaf-clause-carries
 at_digest-returns-in-Leaf-clause-carries g t c =
