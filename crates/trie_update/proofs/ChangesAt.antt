@@ -1,4 +1,5 @@
 -- Changed keys in order, from a depth on.
+use Rattle.std.specs.Prelude.{slice_get}
 use Rattle.std.proofs.Common.{◌≡◌, ◌≢◌, ℕ, zero, suc, ◌<◌, ◌≤◌, Bool, true, false, List, [], ◌∷◌, length, drop, get_or, None, Some, if◌then◌else◌, refl, sym, ◌∙◌, ap, subst, arith}
 use Rattle.std.proofs.lemmas.List.{drop_all, length-map}
 use Rattle.std.specs.List.{AllByRecursion}
@@ -23,6 +24,18 @@ run_of-cons x change changes = refl
 run_of-nil : (x : ℕ) → run_of x [] ≡ 0
 unfolding run_of
 run_of-nil x = refl
+
+-- ---- where the first change does not go on so
+
+pub no-first : (x depth : ℕ) (changes : List Lent) → None ≡ slice_get changes 0 → 0 ≡ run_of x (changes_at depth changes)
+no-first x depth [] e = sym (run_of-nil x)
+no-first x depth (change ∷ changes) e = absurd cc
+
+pub first-apart : (x depth : ℕ) (changes : List Lent) (change : Lent) → Some change ≡ slice_get changes 0 → goes_on x (change_at depth change).0 ≡ false → 0 ≡ run_of x (changes_at depth changes)
+first-apart x depth [] change e apart = absurd cc
+first-apart x depth (first ∷ changes) change e apart =
+    let same : change ≡ first = cc in
+    sym (run_of-cons x (change_at depth first) (changes_at depth changes) ∙ ap (λ (b : Bool). if b then suc (run_of x (changes_at depth changes)) else 0) (ap (λ (c : Lent). goes_on x (change_at depth c).0) (sym same) ∙ apart))
 
 -- the change at a place, of changes of which this holds
 pub each_at : (P : Change → Type 0) (depth : ℕ) (changes : List Lent) (j : ℕ) (d : Lent) → j < length changes → AllByRecursion P (changes_at depth changes) → P (change_at depth (get_or changes j d))

@@ -19,11 +19,11 @@ use Rattle.trie_update.specs.declared.updating.Placed.{Placed}
 use Rattle.trie_update.specs.Adds.{Adds}
 use Rattle.trie_update.specs.Carries.{Carries}
 use Rattle.trie_update.specs.ChangesAt.{Lent, changes_at}
-use Rattle.trie_update.specs.Places.{Keeps, Place, PlaceKeeps, TopKeeps, old_past, place_of, place_outcome, place_visits, seen_past, top_stated, top_visits}
-use Rattle.trie_update.specs.Placed.{IsChild, IsPlaced, kid_before}
+use Rattle.trie_update.specs.Places.{Keeps, Place, PlaceKeeps, TopKeeps, old_past, place_kid, place_of, place_outcome, place_visits, seen_past, top_stated, top_visits}
+use Rattle.trie_update.specs.Placed.{IsChild, IsPlaced}
 use Rattle.trie_update.specs.Subs.{kid_of, top_of_sub}
 use Rattle.trie_update.proofs.Adding.{adds-none, adds-same}
-use Rattle.trie_update.proofs.PlaceFacts.{IsTouched, touched-child, touched-over, untouched-adds, untouched-keeps, untouched-kid, untouched-stated}
+use Rattle.trie_update.proofs.PlaceFacts.{IsTouched, touched-child, touched-over, untouched-adds, untouched-keeps, untouched-stated}
 use Rattle.trie_update.proofs.ChangesAt.{changes-some}
 
 pub empty-changes : {X : Type 0} (xs : List X) → true ≡ (length xs == 0) → xs ≡ []
@@ -36,12 +36,11 @@ some-changes (x ∷ xs) e = omega arith
 
 -- ---- where no key is changed
 
-pub child-untouched : (table : Table) (depth : ℕ) (stood : Former) (changes : List Change) (ledger : Ledger) (new : Child) → changes ≡ [] → kid_of new ≡ kid_before stood → IsChild depth (place_of table depth stood) changes ledger ledger (new, 0)
-child-untouched table depth stood changes ledger new none is =
-    let p = place_of table depth stood in
+pub child-untouched : (depth : ℕ) (p : Place) (changes : List Change) (ledger : Ledger) (new : Child) → changes ≡ [] → kid_of new ≡ place_kid p [] → IsChild depth p changes ledger ledger (new, 0)
+child-untouched depth p changes ledger new none is =
     let nothing = untouched-adds p in
     subst (λ (cs : List Change). IsChild depth p cs ledger ledger (new, 0)) (sym none) (record {
-      kid = is ∙ untouched-kid table depth stood;
+      kid = is;
       stated = sym (untouched-stated p);
       adds = adds-same ledger ledger [] [] 0 0 (place_outcome p []).made (place_outcome p []).lost (place_outcome p []).fresh (place_outcome p []).gone (sym nothing.made) (sym nothing.lost) (sym nothing.fresh) (sym nothing.gone) (adds-none ledger);
       counts = record { fresh = omega arith; gone = omega arith };
@@ -63,23 +62,23 @@ module _ (depth : ℕ) (p : Place) (changes : List Change) (n : ℕ) (visits : V
   pub carries-placed : {S X : Type 0} (store : Store S) (old new : S) (result : Result X UpdateError) → Carries store old new visits result → Carries store old new (place_visits p changes) result
   carries-placed {S} {X} store old new result c = subst (λ (v : Visits). Carries {X = X} store old new v result) (sym touched.visits_is) c
 
-module _ (table : Table) (depth : ℕ) (stood : Former) (changes : List Lent) (some : 1 ≤ length changes) where
-  pub known-touched : (old : Old) → stood ≡ former.Known old → IsTouched (place_of table depth stood) (changes_at depth changes) (top_visits (seen_past table depth 0 old) (old_past 0 old) (changes_at depth changes)) (top_stated (seen_past table depth 0 old) (old_past 0 old) (changes_at depth changes)) (laid (λ cs. updated (seen_past table depth 0 old) cs) (old_past 0 old) (changes_at depth changes))
+module _ (table : Table) (depth : ℕ) (stood : Former) (p : Place) (place_is : place_of table depth stood ≡ p) (changes : List Lent) (some : 1 ≤ length changes) where
+  pub known-touched : (old : Old) → stood ≡ former.Known old → IsTouched p (changes_at depth changes) (top_visits (seen_past table depth 0 old) (old_past 0 old) (changes_at depth changes)) (top_stated (seen_past table depth 0 old) (old_past 0 old) (changes_at depth changes)) (laid (λ cs. updated (seen_past table depth 0 old) cs) (old_past 0 old) (changes_at depth changes))
   unfolding place_of
   known-touched old e =
-      subst (λ (f : Former). IsTouched (place_of table depth f) (changes_at depth changes) (top_visits (seen_past table depth 0 old) (old_past 0 old) (changes_at depth changes)) (top_stated (seen_past table depth 0 old) (old_past 0 old) (changes_at depth changes)) (laid (λ cs. updated (seen_past table depth 0 old) cs) (old_past 0 old) (changes_at depth changes))) (sym e)
+      subst (λ (q : Place). IsTouched q (changes_at depth changes) (top_visits (seen_past table depth 0 old) (old_past 0 old) (changes_at depth changes)) (top_stated (seen_past table depth 0 old) (old_past 0 old) (changes_at depth changes)) (laid (λ cs. updated (seen_past table depth 0 old) cs) (old_past 0 old) (changes_at depth changes))) (ap (place_of table depth) (sym e) ∙ place_is)
       (touched-over (seen_past table depth 0 old) (old_past 0 old) (changes_at depth changes) (changes-some depth changes some))
 
-  pub known-keeps : (old : Old) → stood ≡ former.Known old → TopKeeps depth (seen_past table depth 0 old) (old_past 0 old) (changes_at depth changes) → PlaceKeeps depth (place_of table depth stood) (changes_at depth changes)
+  pub known-keeps : (old : Old) → stood ≡ former.Known old → TopKeeps depth (seen_past table depth 0 old) (old_past 0 old) (changes_at depth changes) → PlaceKeeps depth p (changes_at depth changes)
   unfolding place_of PlaceKeeps
-  known-keeps old e keeps = subst (λ (f : Former). PlaceKeeps depth (place_of table depth f) (changes_at depth changes)) (sym e) keeps
+  known-keeps old e keeps = subst (λ (q : Place). PlaceKeeps depth q (changes_at depth changes)) (ap (place_of table depth) (sym e) ∙ place_is) keeps
 
-  pub named-touched : (digest : Digest) → stood ≡ former.Named digest → IsTouched (place_of table depth stood) (changes_at depth changes) (visits_at (seen_at table depth false digest.0) (changes_at depth changes)) (stated_usage (seen_at table depth false digest.0)) (updated (seen_at table depth false digest.0) (changes_at depth changes))
+  pub named-touched : (digest : Digest) → stood ≡ former.Named digest → IsTouched p (changes_at depth changes) (visits_at (seen_at table depth false digest.0) (changes_at depth changes)) (stated_usage (seen_at table depth false digest.0)) (updated (seen_at table depth false digest.0) (changes_at depth changes))
   unfolding place_of
   named-touched digest e =
-      subst (λ (f : Former). IsTouched (place_of table depth f) (changes_at depth changes) (visits_at (seen_at table depth false digest.0) (changes_at depth changes)) (stated_usage (seen_at table depth false digest.0)) (updated (seen_at table depth false digest.0) (changes_at depth changes))) (sym e)
+      subst (λ (q : Place). IsTouched q (changes_at depth changes) (visits_at (seen_at table depth false digest.0) (changes_at depth changes)) (stated_usage (seen_at table depth false digest.0)) (updated (seen_at table depth false digest.0) (changes_at depth changes))) (ap (place_of table depth) (sym e) ∙ place_is)
       (touched-child (seen_at table depth false digest.0) (changes_at depth changes) (changes-some depth changes some))
 
-  pub named-keeps : (digest : Digest) → stood ≡ former.Named digest → Keeps depth (seen_at table depth false digest.0) (changes_at depth changes) → PlaceKeeps depth (place_of table depth stood) (changes_at depth changes)
+  pub named-keeps : (digest : Digest) → stood ≡ former.Named digest → Keeps depth (seen_at table depth false digest.0) (changes_at depth changes) → PlaceKeeps depth p (changes_at depth changes)
   unfolding place_of PlaceKeeps
-  named-keeps digest e keeps = subst (λ (f : Former). PlaceKeeps depth (place_of table depth f) (changes_at depth changes)) (sym e) (λ some. keeps)
+  named-keeps digest e keeps = subst (λ (q : Place). PlaceKeeps depth q (changes_at depth changes)) (ap (place_of table depth) (sym e) ∙ place_is) (λ some. keeps)

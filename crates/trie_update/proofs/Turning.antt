@@ -6,7 +6,6 @@ use Rattle.std.proofs.lemmas.List.{length-append}
 use Rattle.byte_model.specs.Below.{sum_below, joined_below}
 use Rattle.byte_model.proofs.Below.{sum_below-more, joined_below-more}
 use Rattle.byte_model.specs.Node.{ValueRef}
-use Rattle.trie_model.specs.Root.{Table}
 use Rattle.trie_shape.specs.Runs.{goes_on}
 use Rattle.batch_model.specs.Changes.{Change, found_at}
 use Rattle.change_model.specs.Visits.{Visits, change_at, no_visits, visits_below}
@@ -15,7 +14,6 @@ use Rattle.node_codec.specs.Meanings.{value_of}
 use Rattle.update_model.specs.Updates.{Outcome, ref_after, value_made, value_lost, appearing, disappearing}
 use Rattle.trie_update.specs.declared.errors.UpdateError.{UpdateError}
 use Rattle.trie_update.specs.declared.errors.UpdateError.TheVariants.{NoMemory}
-use Rattle.trie_update.specs.declared.former.Former.{Former}
 use Rattle.trie_update.specs.declared.joining.Child.{Child}
 use Rattle.trie_update.specs.declared.joining.Left.{Left}
 use Rattle.trie_update.specs.declared.ledger.Ledger.{Ledger}
@@ -23,7 +21,7 @@ use Rattle.trie_update.specs.Accounts.{CanCount, GrowsBy, IsNamed}
 use Rattle.trie_update.specs.Adds.{Adds}
 use Rattle.trie_update.specs.Carries.{Carries}
 use Rattle.trie_update.specs.ChangesAt.{AreChangesAt, IsLeft, Lent, changes_at, run_of, value_lent}
-use Rattle.trie_update.specs.Places.{Place, PlaceKeeps, place_kid, place_of, place_outcome, place_stated, place_visits}
+use Rattle.trie_update.specs.Places.{Place, PlaceKeeps, place_kid, place_outcome, place_stated, place_visits}
 use Rattle.trie_update.specs.Placed.{AddsBelow, IsChild, IsParted, run_at}
 use Rattle.trie_update.specs.Subs.{kid_at, kid_of}
 use Rattle.trie_update.proofs.Adding.{adds-then, adds-same}
@@ -170,20 +168,20 @@ module _ {S : Type 0} (store : Store S) (depth : ℕ) (former : Option ValueRef)
   visits_of x = place_visits (places x) (run_at (changes_at depth whole) x)
 
   -- the visits behind this nibble, as the call made them
-  module _ (table : Table) (stood : Former) (place_is : place_of table (depth + 1) stood ≡ places nibble) where
-    same_visits : place_visits (place_of table (depth + 1) stood) (changes_at (depth + 1) front) ≡ visits_of nibble
+  module _ (place : Place) (place_is : place ≡ places nibble) where
+    same_visits : place_visits place (changes_at (depth + 1) front) ≡ visits_of nibble
     same_visits = ap₂ (λ (p : Place) (cs : List Change). place_visits p cs) place_is turn-run
 
     pub turn-stopped : {X Y : Type 0} → ((a b c : S) → store.alike a b → store.alike b c → store.alike a c) → (later : S) (error : UpdateError) → nibble < 16
-        → Carries {X = X} store now later (place_visits (place_of table (depth + 1) stood) (changes_at (depth + 1) front)) (Err error) → Carries {X = Y} store first later (visits_below visits_of 16) (Err error)
+        → Carries {X = X} store now later (place_visits place (changes_at (depth + 1) front)) (Err error) → Carries {X = Y} store first later (visits_below visits_of 16) (Err error)
     unfolding visits_below
     turn-stopped {X} {Y} onward later error small c =
         let here = subst (λ (v : Visits). Carries {X = X} store now later v (Err error)) same_visits c in
         let all : Carries {X = X} store first later (visits_below visits_of (suc nibble)) (Err error) = carries-then store {X = ℕ} {Y = X} onward first now later (visits_below visits_of nibble) (visits_of nibble) 0 (Err error) so_far.carries here in
         carries-below {X = X} {Y = Y} store first later visits_of (suc nibble) 16 error small all
 
-    module _ (later : S) (after : Ledger) (child : Child × ℕ) (child_is : IsChild (depth + 1) (place_of table (depth + 1) stood) (changes_at (depth + 1) front) new after child) (onward : (a b c : S) → store.alike a b → store.alike b c → store.alike a c)
-        (carried : Carries {X = Child × ℕ} store now later (place_visits (place_of table (depth + 1) stood) (changes_at (depth + 1) front)) (Ok child)) where
+    module _ (later : S) (after : Ledger) (child : Child × ℕ) (child_is : IsChild (depth + 1) place (changes_at (depth + 1) front) new after child) (onward : (a b c : S) → store.alike a b → store.alike b c → store.alike a c)
+        (carried : Carries {X = Child × ℕ} store now later (place_visits place (changes_at (depth + 1) front)) (Ok child)) where
       all_visits : Carries {X = ℕ} store first later (visits_below visits_of (nibble + 1)) (Ok 0)
       unfolding visits_below
       all_visits =
@@ -195,7 +193,7 @@ module _ {S : Type 0} (store : Store S) (depth : ℕ) (former : Option ValueRef)
       pub turn-short : {Y : Type 0} → nibble < 16 → Carries {X = Y} store first later (visits_below visits_of 16) (Err NoMemory)
       turn-short {Y} small = carries-below {X = ℕ} {Y = Y} store first later visits_of (nibble + 1) 16 NoMemory (omega arith) (carries-late store {X = ℕ} {Y = ℕ} first later (visits_below visits_of (nibble + 1)) 0 all_visits)
 
-      same_outcome : place_outcome (place_of table (depth + 1) stood) (changes_at (depth + 1) front) ≡ place_outcome (places nibble) (run_at (changes_at depth whole) nibble)
+      same_outcome : place_outcome place (changes_at (depth + 1) front) ≡ place_outcome (places nibble) (run_at (changes_at depth whole) nibble)
       same_outcome = ap₂ (λ (p : Place) (cs : List Change). place_outcome p cs) place_is turn-run
 
       abbrev outcome_of : ℕ → Outcome

@@ -6,16 +6,13 @@ use Rattle.batch_model.specs.Changes.{Change}
 use Rattle.visit_model.specs.Seen.{Seen}
 use Rattle.change_model.specs.Visits.{Visits, before, change_at, changes_behind, closed, merge_visits, merged_child, visits_at, visits_below, where_touched}
 use Rattle.node_codec.specs.Meanings.{value_of}
-use Rattle.update_model.specs.Joins.{Kid, known, named}
 use Rattle.update_model.specs.Updates.{Outcome, ref_after, value_made, value_lost, appearing, disappearing, parts}
-use Rattle.trie_update.specs.declared.former.Former.{Former}
-use Rattle.trie_update.specs.declared.former.Former.TheVariants as former
 use Rattle.trie_update.specs.declared.joining.Child.{Child}
 use Rattle.trie_update.specs.declared.joining.Left.{Left}
 use Rattle.trie_update.specs.declared.updating.Placed.{Placed}
 use Rattle.trie_update.specs.declared.ledger.Ledger.{Ledger}
 use Rattle.trie_update.specs.Adds.{Adds}
-use Rattle.trie_update.specs.Places.{Place, PlaceKeeps, old_past, place_kid, place_outcome, place_stated}
+use Rattle.trie_update.specs.Places.{Place, PlaceKeeps, place_kid, place_outcome, place_stated}
 use Rattle.trie_update.specs.Subs.{kid_at, kid_of, top_of_sub}
 
 -- so many keys at most appeared, and so many disappeared
@@ -59,11 +56,6 @@ pub record IsParted (depth : ℕ) (former : Option ValueRef) (places : ℕ → P
   pub adds : AddsBelow former places changes 16 old new
   pub counts : Counted old new (length changes)
   pub keeps : (x : ℕ) → x < 16 → PlaceKeeps (depth + 1) (places x) (run_at changes x)
-
--- the child that stood behind a nibble, where no key is changed
-abbrev pub kid_before : Former → Kid
-kid_before (former.Known old) = known (old_past 0 old)
-kid_before (former.Named digest) = named digest.0
 
 -- ---- a branch that was read
 

@@ -56,6 +56,12 @@ pub(crate) fn run_length(changes: &[KeyChange<'_>], depth: u64, nibble: u8) -> u
     requires from { AllFrom nibble (changes_at depth changes.now) }
     ensures { result ≡ run_of nibble (changes_at depth changes.now) }
 {
+    let Some((key, _)) = changes.first() else {
+        return 0;
+    };
+    if !goes_on(key, depth, nibble) {
+        return 0;
+    }
     changes.partition_point(|(key, _)| goes_on(key, depth, nibble))
 }
 

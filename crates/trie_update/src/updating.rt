@@ -2,6 +2,7 @@ ghost use Rattle.std.specs.Prelude.{◌≡◌, ◌+◌, ◌≤◌, ◌<◌, ℕ,
 ghost use Rattle.byte_model.specs.Nibbles.{nibbles};
 ghost use Rattle.byte_model.specs.Node.{longest_value};
 ghost use Rattle.byte_model.specs.PackedPath.{longest_path};
+ghost use Rattle.trie_model.specs.Root.{Table};
 ghost use Rattle.batch_model.specs.Changes.{most_changes};
 ghost use Rattle.visit_model.specs.Seen.{Seen, branch, seen_at, seen_child, stated_usage};
 ghost use Rattle.change_model.specs.Visits.{before, closed, most_usage, visits_at, visits_below};
@@ -13,8 +14,8 @@ ghost use Rattle.trie_update.specs.Accounts.{CanCount, GrowsBy, IsNamed};
 ghost use Rattle.trie_update.specs.Carries.{Carries};
 ghost use Rattle.trie_update.specs.ChangesAt.{AreChangesAt, Lent, changes_at, value_lent};
 ghost use Rattle.trie_update.specs.Formers.{IsFormer};
-ghost use Rattle.trie_update.specs.Places.{FitsFormer, FitsParent, FitsTop, Keeps, NoBranch, Reaches, TopKeeps, led_by, old_past, place_behind, place_of, place_visits, seen_past, top_stated, top_visits};
-ghost use Rattle.trie_update.specs.Placed.{IsChild, IsParted, IsPlaced, branch_inside, kid_before, run_at};
+ghost use Rattle.trie_update.specs.Places.{FitsParent, FitsTop, Keeps, NoBranch, Reaches, TopKeeps, led_by, old_past, kid_place, place_behind, place_kid, place_visits, seen_past, top_stated, top_visits};
+ghost use Rattle.trie_update.specs.Placed.{IsChild, IsParted, IsPlaced, branch_inside, run_at};
 ghost use Rattle.trie_update.specs.Subs.{childless, kid_of, top_of_sub};
 ghost use Rattle.trie_update.specs.declared.errors.UpdateError.TheVariants.{NoMemory};
 
@@ -201,6 +202,9 @@ fn lower(
     ensures stated { IfOk result (λ lower. lower.stated ≡ placed.stated) }
     ensures error { IfErr result (λ error. error ≡ NoMemory) }
 {
+    if count == 0 {
+        return Ok(placed);
+    }
     let (key, _) = changes[0];
     let Placed { sub, stated } = placed;
     match nibbles_of(alloc, key, depth, count) {
@@ -349,8 +353,7 @@ fn at_nibbles<T: Texts>(
     for nibble in 0..16 {
         let (run, others) = rest.split_at(run_length(rest, depth, nibble));
         rest = others;
-        let place = parent.behind(nibble);
-        let (child, used) = at_former(alloc, store, ledger, &place, run, depth + 1)?;
+        let (child, used) = at_nibble(alloc, store, ledger, parent, nibble, run, depth)?;
         stated = stated.saturating_add(used);
         push(&mut children, child)?;
     }
@@ -379,35 +382,38 @@ fn push(children: &mut Vec<Child>, child: Child) -> Result<(), UpdateError>
     }
 }
 
-/// What stood behind a nibble, by the changes there, if there are some, and what it stated where it
-/// was visited.
+/// What has become of what stood behind a nibble, and what it stated where it was visited.
 #[cycle(update)]
-fn at_former<T: Texts>(
+fn at_nibble<T: Texts>(
     alloc: Global,
     store: &mut T,
     ledger: &mut Ledger,
-    former: &Former<'_>,
+    parent: &Parent<'_>,
+    nibble: u8,
     changes: &[KeyChange<'_>],
     depth: u64,
 ) -> Result<(Child, u64), UpdateError>
-    requires changes { AreChangesAt depth changes.now }
+    requires changes { AreChangesAt (depth + 1) changes.now }
     requires few { length changes.now ≤ most_changes }
     requires room { CanCount ledger.old (length changes.now) }
     requires named { IsNamed ledger.old }
-    requires former { FitsFormer depth former.now }
-    ensures carries { Carries T.store store.old store.new (place_visits (place_of (T.store.texts store.old) depth former.now) (changes_at depth changes.now)) result }
-    ensures child { IfOk result (λ child. IsChild depth (place_of (T.store.texts store.old) depth former.now) (changes_at depth changes.now) ledger.old ledger.new child) }
+    requires parent { FitsParent depth parent.now }
+    requires inside { nibble < 16 }
+    requires deep { depth ≤ longest_path }
+    ensures carries { Carries T.store store.old store.new (place_visits (place_behind (T.store.texts store.old) depth parent.now nibble) (changes_at (depth + 1) changes.now)) result }
+    ensures child { IfOk result (λ child. IsChild (depth + 1) (place_behind (T.store.texts store.old) depth parent.now nibble) (changes_at (depth + 1) changes.now) ledger.old ledger.new child) }
 {
     if changes.is_empty() {
-        return Ok((unchanged(alloc, former)?, 0));
+        return Ok((unchanged(alloc, parent, nibble)?, 0));
     }
-    match former {
+    let below = depth + 1;
+    match parent.behind(nibble) {
         Former::Known(old) => {
-            let placed = at_path(alloc, store, ledger, old, changes, depth)?;
+            let placed = at_path(alloc, store, ledger, &old, changes, below)?;
             child_placed(alloc, placed)
         }
         Former::Named(digest) => {
-            let placed = at_digest(alloc, store, ledger, digest, changes, depth, false)?;
+            let placed = at_digest(alloc, store, ledger, &digest, changes, below, false)?;
             child_placed(alloc, placed)
         }
     }
@@ -426,16 +432,35 @@ fn child_placed(alloc: Global, placed: Placed) -> Result<(Child, u64), UpdateErr
 
 /// The child that stood behind a nibble, where no key is changed.
 #[inline(always)]
-fn unchanged(alloc: Global, former: &Former<'_>) -> Result<Child, UpdateError>
-    ensures child { IfOk result (λ child. kid_of child ≡ kid_before former.now) }
+fn unchanged(alloc: Global, parent: &Parent<'_>, nibble: u8) -> Result<Child, UpdateError>
+    requires { nibble < 16 }
+    ensures child { IfOk result (λ child. (table : Table) (depth : ℕ) → kid_of child ≡ place_kid (place_behind table depth parent.now nibble) []) }
     ensures error { IfErr result (λ error. error ≡ NoMemory) }
 {
-    match former {
-        Former::Known(old) => match old.sub(alloc) {
-            Ok(Sub::Empty) => Ok(Child::Absent),
-            Ok(sub) => known(alloc, sub),
-            Err(AllocError) => Err(UpdateError::NoMemory),
-        },
-        Former::Named(digest) => Ok(Child::Named(*digest)),
+    match *parent {
+        Parent::Path(old, count) => unchanged_old(alloc, &old.behind(count, nibble)),
+        Parent::Branch(kids) => Ok(unchanged_kid(kids, nibble)),
+    }
+}
+
+#[inline(always)]
+fn unchanged_old(alloc: Global, old: &Old<'_>) -> Result<Child, UpdateError>
+    ensures child { IfOk result (λ child. kid_of child ≡ kid.known (old_past 0 old.now)) }
+    ensures error { IfErr result (λ error. error ≡ NoMemory) }
+{
+    match old.sub(alloc) {
+        Ok(Sub::Empty) => Ok(Child::Absent),
+        Ok(sub) => known(alloc, sub),
+        Err(AllocError) => Err(UpdateError::NoMemory),
+    }
+}
+
+fn unchanged_kid(kids: &Kids, nibble: u8) -> Child
+    requires { nibble < 16 }
+    ensures { (table : Table) (depth : ℕ) → kid_of result ≡ place_kid (kid_place table depth (children_in kids.now nibble)) [] }
+{
+    match kids.get(nibble) {
+        Some(digest) => Child::Named(digest),
+        None => Child::Absent,
     }
 }

@@ -7,7 +7,7 @@ use Rattle.trie_update.specs.declared.joining.Left.{Left}
 use Rattle.trie_update.specs.declared.joining.Child.{Child}
 use Rattle.trie_update.specs.declared.errors.UpdateError.TheVariants.{NoMemory, Usage}
 use Rattle.trie_update.specs.ChangesAt.{changes_at}
-use Rattle.trie_update.specs.Places.{place_behind, place_visits, place_of, old_past, seen_past, top_visits, top_stated, TopKeeps}
+use Rattle.trie_update.specs.Places.{place_behind, place_visits, old_past, seen_past, top_visits, top_stated, TopKeeps}
 use Rattle.trie_update.specs.Placed.{run_at, branch_inside}
 use Rattle.trie_update.proofs.Carrying.{carries-passed, opens-changed, visit-stopped, carries-none, carries-ok, carries-stopped, carries-then, carries-less, carries-closed, carries-end, carries-late}
 use Rattle.trie_update.proofs.Turning.{IsGathered, run-short, end-carries, end-parted, gathered-none, turn-changes, turn-fewer, turn-more, turn-room, turn-short, turn-stopped}
@@ -349,12 +349,10 @@ at_fork-join-requires-clause-joins g t c =
     let store = g.T.Texts.store in
     let old = c.args.store.now in
     let table = store.texts old in
-    let new = c.at_nibbles.new.store in
     let changes = c.args.changes.now in
     let cs = changes_at c.args.depth changes in
     let stood = c.args.old.now in
     let below_it = below-changes_at c.args.depth changes c.requires.changes in
-    let whole = top_visits (seen_past table c.args.depth c.args.shared stood) (old_past c.args.shared stood) cs in
     let more = changes-some c.args.depth changes c.requires.some in
     let long = length-changes_at c.args.depth changes in
     let few : length cs ≤ most_changes = (let f = c.requires.few in omega arith) in
@@ -397,12 +395,10 @@ at_fork-returns-clause-placed g t c =
     let store = g.T.Texts.store in
     let old = c.args.store.now in
     let table = store.texts old in
-    let new = c.at_nibbles.new.store in
     let changes = c.args.changes.now in
     let cs = changes_at c.args.depth changes in
     let stood = c.args.old.now in
     let below_it = below-changes_at c.args.depth changes c.requires.changes in
-    let whole = top_visits (seen_past table c.args.depth c.args.shared stood) (old_past c.args.shared stood) cs in
     let more = changes-some c.args.depth changes c.requires.some in
     let long = length-changes_at c.args.depth changes in
     let few : length cs ≤ most_changes = (let f = c.requires.few in omega arith) in
@@ -413,84 +409,93 @@ at_fork-returns-clause-keeps g t c =
     let store = g.T.Texts.store in
     let old = c.args.store.now in
     let table = store.texts old in
-    let new = c.at_nibbles.new.store in
     let changes = c.args.changes.now in
     let cs = changes_at c.args.depth changes in
     let stood = c.args.old.now in
     let below_it = below-changes_at c.args.depth changes c.requires.changes in
-    let whole = top_visits (seen_past table c.args.depth c.args.shared stood) (old_past c.args.shared stood) cs in
     let more = changes-some c.args.depth changes c.requires.some in
     let long = length-changes_at c.args.depth changes in
     let few : length cs ≤ most_changes = (let f = c.requires.few in omega arith) in
     fork-end-keeps table c.args.depth c.args.shared stood cs c.value_at-value.result c.value_at-value.ensures c.requires.reaches c.requires.forks c.requires.old below_it more few c.args.ledger.now c.at_nibbles.new.ledger c.in_ok-left.left c.in_ok-left.stated c.in_ok-left.ensures.parted
 
-pub at_former-returns-then-is_empty-clause-carries : goal.at_former-returns-then-is_empty-clause-carries
-at_former-returns-then-is_empty-clause-carries g t c =
+pub at_nibble-returns-then-is_empty-clause-carries : goal.at_nibble-returns-then-is_empty-clause-carries
+at_nibble-returns-then-is_empty-clause-carries g t c =
     let store = g.T.Texts.store in
     let old = c.args.store.now in
     let table = store.texts old in
-    let cs = changes_at c.args.depth c.args.changes.now in
-    let p = place_of table c.args.depth c.args.former.now in
-    let none : cs ≡ [] = ap (changes_at c.args.depth) (empty-changes c.args.changes.now c.if-is_empty.ensures) in
+    let cs = changes_at (c.args.depth + 1) c.args.changes.now in
+    let p = place_behind table c.args.depth c.args.parent.now c.args.nibble in
+    let none : cs ≡ [] = ap (changes_at (c.args.depth + 1)) (empty-changes c.args.changes.now c.if-is_empty.ensures) in
     let visits = ap (place_visits p) none ∙ untouched-visits p in
     subst (λ v. Carries {X = Child × ℕ} store old old v (Ok (c.in_ok-unchanged.field-0, 0))) (sym visits) (carries-none store {X = Child × ℕ} old (c.in_ok-unchanged.field-0, 0) (g.met.T.Texts.alike_itself old))
 
-pub at_former-returns-then-is_empty-clause-child : goal.at_former-returns-then-is_empty-clause-child
-at_former-returns-then-is_empty-clause-child g t c =
+pub at_nibble-returns-then-is_empty-clause-child : goal.at_nibble-returns-then-is_empty-clause-child
+at_nibble-returns-then-is_empty-clause-child g t c =
     let store = g.T.Texts.store in
     let old = c.args.store.now in
     let table = store.texts old in
-    let cs = changes_at c.args.depth c.args.changes.now in
-    let none : cs ≡ [] = ap (changes_at c.args.depth) (empty-changes c.args.changes.now c.if-is_empty.ensures) in
-    child-untouched table c.args.depth c.args.former.now cs c.args.ledger.now c.in_ok-unchanged.field-0 none c.in_ok-unchanged.ensures.child
+    let cs = changes_at (c.args.depth + 1) c.args.changes.now in
+    let none : cs ≡ [] = ap (changes_at (c.args.depth + 1)) (empty-changes c.args.changes.now c.if-is_empty.ensures) in
+    child-untouched (c.args.depth + 1) (place_behind table c.args.depth c.args.parent.now c.args.nibble) cs c.args.ledger.now c.in_ok-unchanged.field-0 none (c.in_ok-unchanged.ensures.child table c.args.depth)
 
-pub at_former-returns-in_err-placed-in-Known-clause-carries : goal.at_former-returns-in_err-placed-in-Known-clause-carries
-at_former-returns-in_err-placed-in-Known-clause-carries g t c =
+pub at_nibble-at_path-requires : goal.at_nibble-at_path-requires
+at_nibble-at_path-requires g t c =
+    let fits = c.in-Known.ensures.fits (g.T.Texts.store.texts c.args.store.now) c.args.depth c.requires.parent in
+    λ κs h. (search rules, (h, (c.requires.changes, (some-changes c.args.changes.now c.if-is_empty.ensures, (c.requires.few, (c.requires.room, (c.requires.named, fits)))))))
+
+pub at_nibble-returns-in_err-placed-in-Known-clause-carries : goal.at_nibble-returns-in_err-placed-in-Known-clause-carries
+at_nibble-returns-in_err-placed-in-Known-clause-carries g t c =
     let store = g.T.Texts.store in
+    let place = c.behind.ensures.place (store.texts c.args.store.now) c.args.depth c.requires.parent in
     let some = some-changes c.args.changes.now c.if-is_empty.ensures in
-    let touched = known-touched (store.texts c.args.store.now) c.args.depth c.args.former.now c.args.changes.now some c.in-Known.old c.in-Known.is in
-    carries-placed c.args.depth _ _ _ _ _ _ touched (length-changes_at c.args.depth c.args.changes.now) store c.args.store.now c.at_path.new.store c.from_residual-in_err-placed-in-Known.result
+    let touched = known-touched _ (c.args.depth + 1) c.behind.result _ place c.args.changes.now some c.in-Known.old c.in-Known.is in
+    carries-placed (c.args.depth + 1) _ _ _ _ _ _ touched (length-changes_at (c.args.depth + 1) c.args.changes.now) store c.args.store.now c.at_path.new.store c.from_residual-in_err-placed-in-Known.result
     (carries-passed store {X = Placed} {Y = Child × ℕ} c.args.store.now c.at_path.new.store _ c.in_err-placed-in-Known.field-0.0 c.from_residual-in_err-placed-in-Known.result c.from_residual-in_err-placed-in-Known.ensures.1 c.in_err-placed-in-Known.ensures.carries)
 
-pub at_former-returns-in_err-placed-in-Named-clause-carries : goal.at_former-returns-in_err-placed-in-Named-clause-carries
-at_former-returns-in_err-placed-in-Named-clause-carries g t c =
+pub at_nibble-returns-in_err-placed-in-Named-clause-carries : goal.at_nibble-returns-in_err-placed-in-Named-clause-carries
+at_nibble-returns-in_err-placed-in-Named-clause-carries g t c =
     let store = g.T.Texts.store in
+    let place = c.behind.ensures.place (store.texts c.args.store.now) c.args.depth c.requires.parent in
     let some = some-changes c.args.changes.now c.if-is_empty.ensures in
-    let touched = named-touched (store.texts c.args.store.now) c.args.depth c.args.former.now c.args.changes.now some c.in-Named.digest c.in-Named.is in
-    carries-placed c.args.depth _ _ _ _ _ _ touched (length-changes_at c.args.depth c.args.changes.now) store c.args.store.now c.at_digest.new.store c.from_residual-in_err-placed-in-Named.result
+    let touched = named-touched _ (c.args.depth + 1) c.behind.result _ place c.args.changes.now some c.in-Named.digest c.in-Named.is in
+    carries-placed (c.args.depth + 1) _ _ _ _ _ _ touched (length-changes_at (c.args.depth + 1) c.args.changes.now) store c.args.store.now c.at_digest.new.store c.from_residual-in_err-placed-in-Named.result
     (carries-passed store {X = Placed} {Y = Child × ℕ} c.args.store.now c.at_digest.new.store _ c.in_err-placed-in-Named.field-0.0 c.from_residual-in_err-placed-in-Named.result c.from_residual-in_err-placed-in-Named.ensures.1 c.in_err-placed-in-Named.ensures.carries)
 
-pub at_former-returns-in_ok-placed-in-Known-clause-carries : goal.at_former-returns-in_ok-placed-in-Known-clause-carries
-at_former-returns-in_ok-placed-in-Known-clause-carries g t c =
+pub at_nibble-returns-in_ok-placed-in-Known-clause-carries : goal.at_nibble-returns-in_ok-placed-in-Known-clause-carries
+at_nibble-returns-in_ok-placed-in-Known-clause-carries g t c =
     let store = g.T.Texts.store in
+    let place = c.behind.ensures.place (store.texts c.args.store.now) c.args.depth c.requires.parent in
     let some = some-changes c.args.changes.now c.if-is_empty.ensures in
-    let touched = known-touched (store.texts c.args.store.now) c.args.depth c.args.former.now c.args.changes.now some c.in-Known.old c.in-Known.is in
-    carries-placed c.args.depth _ _ _ _ _ _ touched (length-changes_at c.args.depth c.args.changes.now) {X = Child × ℕ} store c.args.store.now c.at_path.new.store c.child_placed.result
+    let touched = known-touched _ (c.args.depth + 1) c.behind.result _ place c.args.changes.now some c.in-Known.old c.in-Known.is in
+    carries-placed (c.args.depth + 1) _ _ _ _ _ _ touched (length-changes_at (c.args.depth + 1) c.args.changes.now) {X = Child × ℕ} store c.args.store.now c.at_path.new.store c.child_placed.result
     (carries-end store {X = Placed} {Y = Child × ℕ} c.args.store.now c.at_path.new.store _ c.in_ok-placed-in-Known.placed c.child_placed.result c.child_placed.ensures.error c.in_ok-placed-in-Known.ensures.carries)
 
-pub at_former-returns-in_ok-placed-in-Known-clause-child : goal.at_former-returns-in_ok-placed-in-Known-clause-child
-at_former-returns-in_ok-placed-in-Known-clause-child g t c =
+pub at_nibble-returns-in_ok-placed-in-Known-clause-child : goal.at_nibble-returns-in_ok-placed-in-Known-clause-child
+at_nibble-returns-in_ok-placed-in-Known-clause-child g t c =
     let store = g.T.Texts.store in
+    let place = c.behind.ensures.place (store.texts c.args.store.now) c.args.depth c.requires.parent in
     let some = some-changes c.args.changes.now c.if-is_empty.ensures in
-    let touched = known-touched (store.texts c.args.store.now) c.args.depth c.args.former.now c.args.changes.now some c.in-Known.old c.in-Known.is in
-    IfOk-weaker c.child_placed.result _ _ (λ child is. child-placed c.args.depth _ _ _ _ _ _ touched (length-changes_at c.args.depth c.args.changes.now) c.args.ledger.now c.at_path.new.ledger c.in_ok-placed-in-Known.placed c.in_ok-placed-in-Known.ensures.placed
-    (known-keeps (store.texts c.args.store.now) c.args.depth c.args.former.now c.args.changes.now some c.in-Known.old c.in-Known.is c.in_ok-placed-in-Known.ensures.keeps) child is.0 is.1) c.child_placed.ensures.child
+    let touched = known-touched _ (c.args.depth + 1) c.behind.result _ place c.args.changes.now some c.in-Known.old c.in-Known.is in
+    IfOk-weaker c.child_placed.result _ _ (λ child is. child-placed (c.args.depth + 1) _ _ _ _ _ _ touched (length-changes_at (c.args.depth + 1) c.args.changes.now) c.args.ledger.now c.at_path.new.ledger c.in_ok-placed-in-Known.placed c.in_ok-placed-in-Known.ensures.placed
+    (known-keeps _ (c.args.depth + 1) c.behind.result _ place c.args.changes.now some c.in-Known.old c.in-Known.is c.in_ok-placed-in-Known.ensures.keeps) child is.0 is.1) c.child_placed.ensures.child
 
-pub at_former-returns-in_ok-placed-in-Named-clause-carries : goal.at_former-returns-in_ok-placed-in-Named-clause-carries
-at_former-returns-in_ok-placed-in-Named-clause-carries g t c =
+pub at_nibble-returns-in_ok-placed-in-Named-clause-carries : goal.at_nibble-returns-in_ok-placed-in-Named-clause-carries
+at_nibble-returns-in_ok-placed-in-Named-clause-carries g t c =
     let store = g.T.Texts.store in
+    let place = c.behind.ensures.place (store.texts c.args.store.now) c.args.depth c.requires.parent in
     let some = some-changes c.args.changes.now c.if-is_empty.ensures in
-    let touched = named-touched (store.texts c.args.store.now) c.args.depth c.args.former.now c.args.changes.now some c.in-Named.digest c.in-Named.is in
-    carries-placed c.args.depth _ _ _ _ _ _ touched (length-changes_at c.args.depth c.args.changes.now) {X = Child × ℕ} store c.args.store.now c.at_digest.new.store c.child_placed-in-Named.result
+    let touched = named-touched _ (c.args.depth + 1) c.behind.result _ place c.args.changes.now some c.in-Named.digest c.in-Named.is in
+    carries-placed (c.args.depth + 1) _ _ _ _ _ _ touched (length-changes_at (c.args.depth + 1) c.args.changes.now) {X = Child × ℕ} store c.args.store.now c.at_digest.new.store c.child_placed-in-Named.result
     (carries-end store {X = Placed} {Y = Child × ℕ} c.args.store.now c.at_digest.new.store _ c.in_ok-placed-in-Named.placed c.child_placed-in-Named.result c.child_placed-in-Named.ensures.error c.in_ok-placed-in-Named.ensures.carries)
 
-pub at_former-returns-in_ok-placed-in-Named-clause-child : goal.at_former-returns-in_ok-placed-in-Named-clause-child
-at_former-returns-in_ok-placed-in-Named-clause-child g t c =
+pub at_nibble-returns-in_ok-placed-in-Named-clause-child : goal.at_nibble-returns-in_ok-placed-in-Named-clause-child
+at_nibble-returns-in_ok-placed-in-Named-clause-child g t c =
     let store = g.T.Texts.store in
+    let place = c.behind.ensures.place (store.texts c.args.store.now) c.args.depth c.requires.parent in
     let some = some-changes c.args.changes.now c.if-is_empty.ensures in
-    let touched = named-touched (store.texts c.args.store.now) c.args.depth c.args.former.now c.args.changes.now some c.in-Named.digest c.in-Named.is in
-    IfOk-weaker c.child_placed-in-Named.result _ _ (λ child is. child-placed c.args.depth _ _ _ _ _ _ touched (length-changes_at c.args.depth c.args.changes.now) c.args.ledger.now c.at_digest.new.ledger c.in_ok-placed-in-Named.placed c.in_ok-placed-in-Named.ensures.placed
-    (named-keeps (store.texts c.args.store.now) c.args.depth c.args.former.now c.args.changes.now some c.in-Named.digest c.in-Named.is c.in_ok-placed-in-Named.ensures.keeps) child is.0 is.1) c.child_placed-in-Named.ensures.child
+    let touched = named-touched _ (c.args.depth + 1) c.behind.result _ place c.args.changes.now some c.in-Named.digest c.in-Named.is in
+    IfOk-weaker c.child_placed-in-Named.result _ _ (λ child is. child-placed (c.args.depth + 1) _ _ _ _ _ _ touched (length-changes_at (c.args.depth + 1) c.args.changes.now) c.args.ledger.now c.at_digest.new.ledger c.in_ok-placed-in-Named.placed c.in_ok-placed-in-Named.ensures.placed
+    (named-keeps _ (c.args.depth + 1) c.behind.result _ place c.args.changes.now some c.in-Named.digest c.in-Named.is c.in_ok-placed-in-Named.ensures.keeps) child is.0 is.1) c.child_placed-in-Named.ensures.child
 
 pub at_nibbles-run_length-requires-clause-rises : goal.at_nibbles-run_length-requires-clause-rises
 at_nibbles-run_length-requires-clause-rises g t c = c.loop-nibble.invariant.left.changes.rises
@@ -505,13 +510,8 @@ at_nibbles-split_at-requires g t c =
     let is = c.run_length.ensures in
     omega arith
 
-pub at_nibbles-overflow_add-depth : goal.at_nibbles-overflow_add-depth
-at_nibbles-overflow_add-depth g t c =
-    let deep = lent-deep c.args.depth c.args.changes.now c.requires.changes c.requires.some in
-    record { fits = omega arith }
-
-pub at_nibbles-at_former-requires : goal.at_nibbles-at_former-requires
-at_nibbles-at_former-requires g t c =
+pub at_nibbles-at_nibble-requires : goal.at_nibbles-at_nibble-requires
+at_nibbles-at_nibble-requires g t c =
     let store = g.T.Texts.store in
     let ref = option_map value_of c.args.former in
     let table = store.texts c.args.store.now in
@@ -519,7 +519,7 @@ at_nibbles-at_former-requires g t c =
     let deep = lent-deep c.args.depth c.args.changes.now c.requires.changes c.requires.some in
     let fewer = turn-fewer store c.args.depth ref places c.args.changes.now c.loop-nibble.rest.now c.loop-nibble.nibble c.loop-nibble.children.items c.loop-nibble.stated c.args.store.now c.loop-nibble.store c.args.ledger.now c.loop-nibble.ledger c.loop-nibble.invariant c.split_at.result.0.now c.split_at.result.1.now c.run_length.result c.run_length.ensures c.split_at.ensures.front c.split_at.ensures.back in
     let few = c.requires.few in
-    λ κs h. (search rules, (h, (turn-changes store c.args.depth ref places c.args.changes.now c.loop-nibble.rest.now c.loop-nibble.nibble c.loop-nibble.children.items c.loop-nibble.stated c.args.store.now c.loop-nibble.store c.args.ledger.now c.loop-nibble.ledger c.loop-nibble.invariant c.split_at.result.0.now c.split_at.result.1.now c.run_length.result c.run_length.ensures c.split_at.ensures.front c.split_at.ensures.back, (omega arith, (turn-room store c.args.depth ref places c.args.changes.now c.loop-nibble.rest.now c.loop-nibble.nibble c.loop-nibble.children.items c.loop-nibble.stated c.args.store.now c.loop-nibble.store c.args.ledger.now c.loop-nibble.ledger c.loop-nibble.invariant c.split_at.result.0.now c.split_at.result.1.now c.run_length.result c.run_length.ensures c.split_at.ensures.front c.split_at.ensures.back c.requires.room, (c.loop-nibble.invariant.named, c.behind-place.ensures.fits table c.args.depth c.requires.parent))))))
+    λ κs h. (search rules, (h, (turn-changes store c.args.depth ref places c.args.changes.now c.loop-nibble.rest.now c.loop-nibble.nibble c.loop-nibble.children.items c.loop-nibble.stated c.args.store.now c.loop-nibble.store c.args.ledger.now c.loop-nibble.ledger c.loop-nibble.invariant c.split_at.result.0.now c.split_at.result.1.now c.run_length.result c.run_length.ensures c.split_at.ensures.front c.split_at.ensures.back, (omega arith, (turn-room store c.args.depth ref places c.args.changes.now c.loop-nibble.rest.now c.loop-nibble.nibble c.loop-nibble.children.items c.loop-nibble.stated c.args.store.now c.loop-nibble.store c.args.ledger.now c.loop-nibble.ledger c.loop-nibble.invariant c.split_at.result.0.now c.split_at.result.1.now c.run_length.result c.run_length.ensures c.split_at.ensures.front c.split_at.ensures.back c.requires.room, (c.loop-nibble.invariant.named, (c.requires.parent, (c.loop-nibble-test.true, omega arith))))))))
 
 pub at_nibbles-returns-in_err-child-clause-carries : goal.at_nibbles-returns-in_err-child-clause-carries
 at_nibbles-returns-in_err-child-clause-carries g t c =
@@ -529,9 +529,9 @@ at_nibbles-returns-in_err-child-clause-carries g t c =
     let places = place_behind table c.args.depth c.args.parent.now in
     let texts = g.met.T.Texts.alike_texts c.args.store.now c.loop-nibble.store c.loop-nibble.invariant.carries.left.same in
     let now = store.texts c.loop-nibble.store in
-    let place = c.behind-place.ensures.place now c.args.depth c.requires.parent ∙ ap (λ t. place_behind t c.args.depth c.args.parent.now c.loop-nibble.nibble) (sym texts) in
-    carries-passed store {X = Left × ℕ} {Y = Left × ℕ} c.args.store.now c.at_former.new.store (visits_below (λ x. place_visits (places x) (run_at (changes_at c.args.depth c.args.changes.now) x)) 16) c.in_err-child.field-0.0 c.from_residual-in_err-child.result c.from_residual-in_err-child.ensures.1
-    (turn-stopped store c.args.depth ref places c.args.changes.now c.loop-nibble.rest.now c.loop-nibble.nibble c.loop-nibble.children.items c.loop-nibble.stated c.args.store.now c.loop-nibble.store c.args.ledger.now c.loop-nibble.ledger c.loop-nibble.invariant c.split_at.result.0.now c.split_at.result.1.now c.run_length.result c.run_length.ensures c.split_at.ensures.front c.split_at.ensures.back now c.behind-place.result place {X = Child × ℕ} {Y = Left × ℕ} g.met.T.Texts.alike_onward c.at_former.new.store c.in_err-child.field-0.0 c.loop-nibble-test.true c.in_err-child.ensures.carries)
+    let place = ap (λ t. place_behind t c.args.depth c.args.parent.now c.loop-nibble.nibble) (sym texts) in
+    carries-passed store {X = Left × ℕ} {Y = Left × ℕ} c.args.store.now c.at_nibble.new.store (visits_below (λ x. place_visits (places x) (run_at (changes_at c.args.depth c.args.changes.now) x)) 16) c.in_err-child.field-0.0 c.from_residual-in_err-child.result c.from_residual-in_err-child.ensures.1
+    (turn-stopped store c.args.depth ref places c.args.changes.now c.loop-nibble.rest.now c.loop-nibble.nibble c.loop-nibble.children.items c.loop-nibble.stated c.args.store.now c.loop-nibble.store c.args.ledger.now c.loop-nibble.ledger c.loop-nibble.invariant c.split_at.result.0.now c.split_at.result.1.now c.run_length.result c.run_length.ensures c.split_at.ensures.front c.split_at.ensures.back (place_behind now c.args.depth c.args.parent.now c.loop-nibble.nibble) place {X = Child × ℕ} {Y = Left × ℕ} g.met.T.Texts.alike_onward c.at_nibble.new.store c.in_err-child.field-0.0 c.loop-nibble-test.true c.in_err-child.ensures.carries)
 
 pub at_nibbles-returns-in_err-push-clause-carries : goal.at_nibbles-returns-in_err-push-clause-carries
 at_nibbles-returns-in_err-push-clause-carries g t c =
@@ -541,10 +541,10 @@ at_nibbles-returns-in_err-push-clause-carries g t c =
     let places = place_behind table c.args.depth c.args.parent.now in
     let texts = g.met.T.Texts.alike_texts c.args.store.now c.loop-nibble.store c.loop-nibble.invariant.carries.left.same in
     let now = store.texts c.loop-nibble.store in
-    let place = c.behind-place.ensures.place now c.args.depth c.requires.parent ∙ ap (λ t. place_behind t c.args.depth c.args.parent.now c.loop-nibble.nibble) (sym texts) in
-    carries-passed store {X = Left × ℕ} {Y = Left × ℕ} c.args.store.now c.at_former.new.store (visits_below (λ x. place_visits (places x) (run_at (changes_at c.args.depth c.args.changes.now) x)) 16) NoMemory c.from_residual-in_err-push.result
+    let place = ap (λ t. place_behind t c.args.depth c.args.parent.now c.loop-nibble.nibble) (sym texts) in
+    carries-passed store {X = Left × ℕ} {Y = Left × ℕ} c.args.store.now c.at_nibble.new.store (visits_below (λ x. place_visits (places x) (run_at (changes_at c.args.depth c.args.changes.now) x)) 16) NoMemory c.from_residual-in_err-push.result
     (subst (λ e. IsErrAnd c.from_residual-in_err-push.result (λ given. given ≡ e)) c.in_err-push.ensures.error c.from_residual-in_err-push.ensures.1)
-    (turn-short store c.args.depth ref places c.args.changes.now c.loop-nibble.rest.now c.loop-nibble.nibble c.loop-nibble.children.items c.loop-nibble.stated c.args.store.now c.loop-nibble.store c.args.ledger.now c.loop-nibble.ledger c.loop-nibble.invariant c.split_at.result.0.now c.split_at.result.1.now c.run_length.result c.run_length.ensures c.split_at.ensures.front c.split_at.ensures.back now c.behind-place.result place c.at_former.new.store c.at_former.new.ledger (c.in_ok-child.child, c.in_ok-child.used) c.in_ok-child.ensures.child g.met.T.Texts.alike_onward c.in_ok-child.ensures.carries {Y = Left × ℕ} c.loop-nibble-test.true)
+    (turn-short store c.args.depth ref places c.args.changes.now c.loop-nibble.rest.now c.loop-nibble.nibble c.loop-nibble.children.items c.loop-nibble.stated c.args.store.now c.loop-nibble.store c.args.ledger.now c.loop-nibble.ledger c.loop-nibble.invariant c.split_at.result.0.now c.split_at.result.1.now c.run_length.result c.run_length.ensures c.split_at.ensures.front c.split_at.ensures.back (place_behind now c.args.depth c.args.parent.now c.loop-nibble.nibble) place c.at_nibble.new.store c.at_nibble.new.ledger (c.in_ok-child.child, c.in_ok-child.used) c.in_ok-child.ensures.child g.met.T.Texts.alike_onward c.in_ok-child.ensures.carries {Y = Left × ℕ} c.loop-nibble-test.true)
 
 pub at_nibbles-returns-clause-carries : goal.at_nibbles-returns-clause-carries
 at_nibbles-returns-clause-carries g t c =
@@ -795,6 +795,6 @@ at_nibbles-loop-nibble-preserved g t c =
     let places = place_behind table c.args.depth c.args.parent.now in
     let texts = g.met.T.Texts.alike_texts c.args.store.now c.loop-nibble.store c.loop-nibble.invariant.carries.left.same in
     let now = store.texts c.loop-nibble.store in
-    let place = c.behind-place.ensures.place now c.args.depth c.requires.parent ∙ ap (λ t. place_behind t c.args.depth c.args.parent.now c.loop-nibble.nibble) (sym texts) in
-    let more = turn-more store c.args.depth ref places c.args.changes.now c.loop-nibble.rest.now c.loop-nibble.nibble c.loop-nibble.children.items c.loop-nibble.stated c.args.store.now c.loop-nibble.store c.args.ledger.now c.loop-nibble.ledger c.loop-nibble.invariant c.split_at.result.0.now c.split_at.result.1.now c.run_length.result c.run_length.ensures c.split_at.ensures.front c.split_at.ensures.back now c.behind-place.result place c.at_former.new.store c.at_former.new.ledger (c.in_ok-child.child, c.in_ok-child.used) c.in_ok-child.ensures.child g.met.T.Texts.alike_onward c.in_ok-child.ensures.carries c.push.new.children.items c.in_ok-push.ensures.items c.loop-nibble-test.true in
-    subst (λ n. IsGathered store c.args.depth ref places c.args.changes.now c.split_at.result.1.now (c.loop-nibble.nibble + 1) c.push.new.children.items n c.args.store.now c.at_former.new.store c.args.ledger.now c.at_former.new.ledger) (sym c.saturating_add-stated.ensures) more
+    let place = ap (λ t. place_behind t c.args.depth c.args.parent.now c.loop-nibble.nibble) (sym texts) in
+    let more = turn-more store c.args.depth ref places c.args.changes.now c.loop-nibble.rest.now c.loop-nibble.nibble c.loop-nibble.children.items c.loop-nibble.stated c.args.store.now c.loop-nibble.store c.args.ledger.now c.loop-nibble.ledger c.loop-nibble.invariant c.split_at.result.0.now c.split_at.result.1.now c.run_length.result c.run_length.ensures c.split_at.ensures.front c.split_at.ensures.back (place_behind now c.args.depth c.args.parent.now c.loop-nibble.nibble) place c.at_nibble.new.store c.at_nibble.new.ledger (c.in_ok-child.child, c.in_ok-child.used) c.in_ok-child.ensures.child g.met.T.Texts.alike_onward c.in_ok-child.ensures.carries c.push.new.children.items c.in_ok-push.ensures.items c.loop-nibble-test.true in
+    subst (λ n. IsGathered store c.args.depth ref places c.args.changes.now c.split_at.result.1.now (c.loop-nibble.nibble + 1) c.push.new.children.items n c.args.store.now c.at_nibble.new.store c.args.ledger.now c.at_nibble.new.ledger) (sym c.saturating_add-stated.ensures) more

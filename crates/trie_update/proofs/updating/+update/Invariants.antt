@@ -6,8 +6,8 @@ use Rattle.trie_update.proofs.Turning.{IsGathered}
 use Rattle.trie_update.proofs.updating.+update.Given as goal
 
 -- each nibble further down leaves room for the calls at a depth
-abbrev pub decreases-at_former : goal.decreases-at_former
-decreases-at_former g l = 8 * (longest_path + 2 - l.depth) + 7
+abbrev pub decreases-at_nibble : goal.decreases-at_nibble
+decreases-at_nibble g l = 8 * (longest_path + 2 - l.depth)
 
 abbrev pub decreases-at_digest : goal.decreases-at_digest
 decreases-at_digest g l = 8 * (longest_path + 2 - l.depth) + (if l.after_extension then 3 else 6)

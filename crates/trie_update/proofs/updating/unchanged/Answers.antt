@@ -1,13 +1,18 @@
-use Rattle.std.proofs.Common.{ap, sym, ◌∙◌}
+use Rattle.std.proofs.Common.{◌+◌, [], ap, sym, ◌∙◌}
 use Rattle.std.proofs.lemmas.Result.{IfOk-weaker}
-use Rattle.update_model.specs.Joins.{known}
-use Rattle.trie_update.specs.Placed.{kid_before}
-use Rattle.trie_update.specs.Subs.{top_of_sub}
-use Rattle.trie_update.proofs.PlaceFacts.{sub-top}
+use Rattle.trie_update.specs.declared.former.Former.TheVariants as former
+use Rattle.trie_update.specs.Places.{place_behind, place_kid}
+use Rattle.trie_update.proofs.PlaceFacts.{behind-place, untouched-kid}
 use Rattle.trie_update.proofs.updating.unchanged.Goals as goal
 
-pub returns-in-Ok-Empty-clause-child : goal.returns-in-Ok-Empty-clause-child
-returns-in-Ok-Empty-clause-child c = ap known (ap top_of_sub (sym c.in-Ok-Empty.field-0-is) ∙ ap top_of_sub c.in-Ok-Empty.ensures ∙ sub-top c.in-Known.old) ∙ sym (ap kid_before c.in-Known.is)
+pub returns-in-Path-clause-child : goal.returns-in-Path-clause-child
+unfolding place_behind
+returns-in-Path-clause-child c =
+    IfOk-weaker c.unchanged_old.result _ _ (λ child e. λ table depth.
+    e ∙ untouched-kid table (depth + 1) (former.Known c.behind.result)
+    ∙ ap (λ p. place_kid p []) (behind-place table depth c.in-Path.count c.args.nibble c.in-Path.old c.behind.result c.behind.ensures)
+    ∙ sym (ap (λ p. place_kid (place_behind table depth p c.args.nibble) []) c.in-Path.is)) c.unchanged_old.ensures.child
 
-pub returns-in-Ok-clause-child : goal.returns-in-Ok-clause-child
-returns-in-Ok-clause-child c = IfOk-weaker c.known.result _ _ (λ child e. e ∙ ap (λ s. known (top_of_sub s)) c.in-Ok.ensures ∙ ap known (sub-top c.in-Known.old) ∙ sym (ap kid_before c.in-Known.is)) c.known.ensures.child
+pub returns-in-Branch-clause-child : goal.returns-in-Branch-clause-child
+unfolding place_behind
+returns-in-Branch-clause-child c = λ table depth. c.unchanged_kid.ensures table (depth + 1) ∙ sym (ap (λ p. place_kid (place_behind table depth p c.args.nibble) []) c.in-Branch.is)
