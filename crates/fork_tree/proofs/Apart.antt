@@ -9,14 +9,14 @@ use Rattle.fork_model.specs.Trees.{Header, IsTree, block_of, line}
 use Rattle.fork_model.proofs.Ids.{found, found-here, found-behind, found_not_none, same_or_other, AreApart}
 use Rattle.fork_model.proofs.Lines.{id_key, line-head, stands_in}
 use Rattle.fork_model.proofs.Partition.{apart_blocks, map-reverse}
-use Rattle.fork_tree.specs.Kept.{IsKept, header_of, headers, id_at, place_of, prev_at, tree_of}
+use Rattle.fork_tree.specs.Kept.{header_of, headers, id_at, place_of, prev_at, tree_of}
 use Rattle.fork_tree.specs.declared.block.Block.{Block}
 use Rattle.fork_tree.proofs.Places.{place-behind, place-here, stands_at}
 use Rattle.fork_tree.proofs.Before.{block_at_place, id-at, prev-at}
 
 -- any block, which is read where there is none
 abbrev pub some_block : Block
-some_block = record { id = record { 0 = [] }; prev = record { 0 = [] }; height = 0; gap = 0 }
+some_block = record { id = record { 0 = [] }; prev = record { 0 = [] }; height = 0; before = 0 }
 
 -- what stands in a list is found by its id
 stands_found : (bs : List Header) (i : ℕ) (h : Header) → slice_get bs i ≡ Some h → found id_key bs h.id ≡ None → ⊥
@@ -47,7 +47,7 @@ places_apart blocks is i within =
     let at : slice_get (headers blocks) i ≡ Some h = block_at_place blocks i (get_or blocks i some_block) (slice_get-get_or blocks i some_block within) in
     ap (place_of (headers blocks)) (id-at blocks i h at) ∙ place-apart (headers blocks) (apart_blocks (tree_of blocks) is) i h at
 
-module _ (blocks : List Block) (entries : List (Digest × ℕ)) (kept : IsKept blocks entries) where
+module _ (blocks : List Block) (tree : IsTree (tree_of blocks)) where
   -- a block and its place
   pub record AtPlace (i : ℕ) : Type 0 where
     pub block : Header
@@ -59,13 +59,13 @@ module _ (blocks : List Block) (entries : List (Digest × ℕ)) (kept : IsKept b
   at_place i within =
       let h : Header = header_of (get_or blocks i some_block) in
       let at : slice_get (headers blocks) i ≡ Some h = block_at_place blocks i (get_or blocks i some_block) (slice_get-get_or blocks i some_block within) in
-      let place = places_apart blocks kept.tree i within in
+      let place = places_apart blocks tree i within in
       let s = stands_at (headers blocks) (id_at blocks i) i place in
       let same : s.block ≡ h = cc (s.is, at) in
       record { block = h; is = at; found = s.found ∙ ap Some same; place = place }
 
   head-place : place_of (headers blocks) (tree_of blocks).head ≡ Some 0
-  head-place = first blocks kept.tree
+  head-place = first blocks tree
     where
       first : (bs : List Block) → IsTree (tree_of bs) → place_of (headers bs) (tree_of bs).head ≡ Some 0
       first [] is = absurd is.grown
@@ -87,11 +87,11 @@ module _ (blocks : List Block) (entries : List (Digest × ℕ)) (kept : IsKept b
   pub line-at : (i : ℕ) → i < length blocks → 0 < i → line (tree_of blocks) (id_at blocks i) ≡ line (tree_of blocks) (prev_at blocks i) ++ id_at blocks i ∷ []
   line-at i within behind =
       let a = at_place i within in
-      (stands_in (tree_of blocks) kept.tree (id_at blocks i) a.block a.found (not_head i within behind)).line
+      (stands_in (tree_of blocks) tree (id_at blocks i) a.block a.found (not_head i within behind)).line
       ∙ ap (λ q. line (tree_of blocks) q ++ id_at blocks i ∷ []) (sym (prev-at blocks i a.block a.is))
 
   pub line-first : 0 < length blocks → line (tree_of blocks) (id_at blocks 0) ≡ id_at blocks 0 ∷ []
-  line-first some = ap (line (tree_of blocks)) (head-id some) ∙ line-head (tree_of blocks) kept.tree ∙ ap (λ q. q ∷ []) (sym (head-id some))
+  line-first some = ap (line (tree_of blocks)) (head-id some) ∙ line-head (tree_of blocks) tree ∙ ap (λ q. q ∷ []) (sym (head-id some))
 
   -- one more at the end of a list is the first of the list turned round
   turned_push : (i : ℕ) (d : Block) (ids : List Digest) → i < length blocks → id_at blocks i ∷ reverse (map (λ (k : Digest). k.0) ids) ≡ reverse (map (λ (k : Digest). k.0) (ids ++ (get_or blocks i d).id ∷ []))

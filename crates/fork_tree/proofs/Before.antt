@@ -1,18 +1,16 @@
 -- The place before that of a block: that of its prev.
-use Rattle.std.proofs.Common.{◌≡◌, ℕ, ◌<◌, Bool, true, List, [], length, get_or, None, Some, sym, ◌∙◌, ap, arith}
+use Rattle.std.proofs.Common.{◌≡◌, ℕ, ◌<◌, List, [], length, get_or, None, Some, sym, ◌∙◌, ap, arith}
 use Rattle.std.specs.Option.{option_map}
-use Rattle.std.specs.Prelude.{nat_eq}
-use Rattle.std.specs.Cmp.Lexicographic.{bytes_decides, pointwise}
 use Rattle.std.specs.List.{slice_get}
 use Rattle.std.proofs.lemmas.Option.{get_or_from_slice_get, slice_get-get_or, slice_get-map}
 use Rattle.base_core.specs.declared.hash.Digest.{Digest}
-use Rattle.fork_model.specs.Trees.{Header, block_of, ids_of}
+use Rattle.fork_model.specs.Trees.{Header, IsTree, block_of, ids_of}
 use Rattle.fork_model.proofs.Ids.{found-key}
 use Rattle.fork_model.proofs.Lines.{id_key}
-use Rattle.fork_tree.specs.Kept.{IsKept, header_of, headers, id_at, placed, prev_at, tree_of}
+use Rattle.fork_tree.specs.Kept.{AreLinked, IsPlaced, header_of, headers, id_at, placed, prev_at, tree_of}
 use Rattle.fork_tree.specs.declared.block.Block.{Block}
 use Rattle.fork_tree.proofs.Earlier.{IsEarlier, earlier}
-use Rattle.fork_tree.proofs.Kept.{placed-at}
+use Rattle.fork_tree.proofs.Places.{stands_at}
 
 pub block_at_place : (blocks : List Block) (place : ℕ) (x : Block) → slice_get blocks place ≡ Some x → slice_get (headers blocks) place ≡ Some (header_of x)
 block_at_place blocks place x at = slice_get-map header_of blocks place ∙ ap (option_map header_of) at
@@ -27,12 +25,12 @@ pub block_of-id : (bs : List Header) (q : List ℕ) (h : Header) → block_of bs
 unfolding block_of
 block_of-id bs q h at = found-key id_key bs q h at
 
-module _ (blocks : List Block) (entries : List (Digest × ℕ)) (kept : IsKept blocks entries) (place : ℕ) (x : Block) (is : slice_get blocks place ≡ Some x) (behind : 0 < place) where
+module _ (blocks : List Block) (entries : List (Digest × ℕ)) (tree : IsTree (tree_of blocks)) (places : IsPlaced blocks entries) (place : ℕ) (x : Block) (is : slice_get blocks place ≡ Some x) (behind : 0 < place) where
   pub it : IsEarlier (headers blocks) (header_of x) place
-  it = earlier (tree_of blocks) kept.tree place (header_of x) (block_at_place blocks place x is) behind
+  it = earlier (tree_of blocks) tree place (header_of x) (block_at_place blocks place x is) behind
 
   pub prev-placed : placed entries x.prev.0 ≡ Some it.at
-  prev-placed = kept.places x.prev.0 ∙ it.is
+  prev-placed = places x.prev.0 ∙ it.is
 
   pub prev-there : None ≡ placed entries x.prev.0 → ⊥
   prev-there none = none_some (none ∙ prev-placed)
@@ -48,14 +46,16 @@ module _ (blocks : List Block) (entries : List (Digest × ℕ)) (kept : IsKept b
 
   pub prev-id : (n : ℕ) → Some n ≡ placed entries x.prev.0 → id_at blocks n ≡ prev_at blocks place
   prev-id n at =
-      let s = placed-at blocks entries kept x.prev.0 n at in
+      let s = stands_at (headers blocks) x.prev.0 n (sym (places x.prev.0) ∙ sym at) in
       id-at blocks n s.block s.is ∙ sym (block_of-id (headers blocks) x.prev.0 s.block s.found) ∙ sym (prev-at blocks place (header_of x) (block_at_place blocks place x is))
 
--- the place of an id that stands there, if it is that of a prev
-pub prev-near : (blocks : List Block) (near place : ℕ) (d e : Block) → near < length blocks → place < length blocks → (get_or blocks near d).id.0 ≡ (get_or blocks place e).prev.0 → id_at blocks near ≡ prev_at blocks place
-prev-near blocks near place d e within there same =
-    id-at blocks near _ (block_at_place blocks near _ (slice_get-get_or blocks near d within)) ∙ same ∙ sym (prev-at blocks place _ (block_at_place blocks place _ (slice_get-get_or blocks place e there)))
+-- what a block keeps of its prev
+module _ (blocks : List Block) (count : ℕ) (linked : AreLinked blocks count) (place : ℕ) (d : Block) (within : place < length blocks) (counted : place < count) (behind : 0 < place) where
+  there : slice_get blocks place ≡ Some (get_or blocks place d)
+  there = slice_get-get_or blocks place d within
 
--- what a comparison in the code tells
-pub same_by_eq : (a b : List ℕ) (r : Bool) → r ≡ true → r ≡ pointwise nat_eq a b → a ≡ b
-same_by_eq a b r e is = (bytes_decides a b).0 (sym is ∙ e)
+  pub linked-before : (get_or blocks place d).before < place
+  linked-before = (linked place (get_or blocks place d) counted there).earlier behind
+
+  pub linked-prev : id_at blocks (get_or blocks place d).before ≡ prev_at blocks place
+  linked-prev = (linked place (get_or blocks place d) counted there).prev behind ∙ sym (prev-at blocks place _ (block_at_place blocks place _ there))

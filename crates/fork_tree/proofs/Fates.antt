@@ -8,12 +8,12 @@ use Rattle.std.proofs.lemmas.Option.{get_or_from_slice_get, slice_get-get_or, sl
 use Rattle.std.proofs.lemmas.List.{append-nil, length-append, length-map, map-append, take_all, take_more}
 use Rattle.std.proofs.lemmas.List.Elements.{filter-append}
 use Rattle.base_core.specs.declared.hash.Digest.{Digest}
-use Rattle.fork_model.specs.Trees.{BlockTree, Header, block_of, descends, dropped, ids_of, is_among, line}
+use Rattle.fork_model.specs.Trees.{BlockTree, Header, IsTree, block_of, descends, dropped, ids_of, is_among, line}
 use Rattle.fork_model.proofs.Ids.{apart_from, apart_is, same-itself, same_from}
 use Rattle.fork_model.proofs.Moves.{or_false}
 use Rattle.fork_model.proofs.Descent.{descends-both, descends-itself, descends-over}
 use Rattle.fork_model.proofs.Partition.{descends-from_head, line-told}
-use Rattle.fork_tree.specs.Kept.{IsKept, header_of, headers, id_at, prev_at, tree_of}
+use Rattle.fork_tree.specs.Kept.{header_of, headers, id_at, prev_at, tree_of}
 use Rattle.fork_tree.specs.declared.block.Block.{Block}
 use Rattle.fork_tree.proofs.Earlier.{split_at}
 use Rattle.fork_tree.proofs.Before.{block_at_place, id-at, prev-at}
@@ -61,7 +61,7 @@ slice_get-take {X} (suc i) (x ∷ xs) (suc k) lt = slice_get-take i xs k (omega 
 filter_next : {X : Type 0} (p : X → Bool) (xs : List X) (x : X) (t : Bool) → p x ≡ t → filter p (xs ++ x ∷ []) ≡ filter p xs ++ cond t (x ∷ []) []
 filter_next {X} p xs x t e = filter-append p xs (x ∷ []) ∙ ap (λ b. filter p xs ++ cond b (x ∷ []) []) e
 
-module _ (blocks : List Block) (entries : List (Digest × ℕ)) (kept : IsKept blocks entries) (id : List ℕ) (c : Header) (at_id : block_of (headers blocks) id ≡ Some c) where
+module _ (blocks : List Block) (tree : IsTree (tree_of blocks)) (id : List ℕ) (c : Header) (at_id : block_of (headers blocks) id ≡ Some c) where
   pub id_is : (i : ℕ) (d : Block) → i < length blocks → (get_or blocks i d).id.0 ≡ id_at blocks i
   id_is i d within = sym (id-at blocks i (header_of (get_or blocks i d)) (block_at_place blocks i (get_or blocks i d) (slice_get-get_or blocks i d within)))
 
@@ -81,14 +81,14 @@ module _ (blocks : List Block) (entries : List (Digest × ℕ)) (kept : IsKept b
       let xs : List (List ℕ) = ids_of (headers blocks) in
       let p : List ℕ → Bool = is_met (tree_of blocks) id in
       let whole : line (tree_of blocks) id ≡ filter p (take i xs) ++ (id_at blocks i ∷ filter p (drop (suc i) xs))
-      = sym (line-told (tree_of blocks) kept.tree id)
+      = sym (line-told (tree_of blocks) tree id)
       ∙ ap (filter p) (split_at xs i (id_at blocks i) (at_ids i within))
       ∙ filter-append p (take i xs) (id_at blocks i ∷ drop (suc i) xs)
       ∙ ap (λ t. filter p (take i xs) ++ cond t (id_at blocks i ∷ filter p (drop (suc i) xs)) (filter p (drop (suc i) xs))) on in
       ap₂ slice_get whole count ∙ slice_get-seam (filter p (take i xs)) (id_at blocks i) (filter p (drop (suc i) xs))
 
   on_line : (i met : ℕ) → slice_get (line (tree_of blocks) id) met ≡ Some (id_at blocks i) → is_met (tree_of blocks) id (id_at blocks i) ≡ true
-  on_line i met at = filter_has (is_met (tree_of blocks) id) (ids_of (headers blocks)) met (id_at blocks i) (ap (λ l. slice_get l met) (line-told (tree_of blocks) kept.tree id) ∙ at)
+  on_line i met at = filter_has (is_met (tree_of blocks) id) (ids_of (headers blocks)) met (id_at blocks i) (ap (λ l. slice_get l met) (line-told (tree_of blocks) tree id) ∙ at)
 
   off_line : (i met : ℕ) → i < length blocks → met ≡ length (filter (is_met (tree_of blocks) id) (take i (ids_of (headers blocks)))) → (slice_get (line (tree_of blocks) id) met ≡ Some (id_at blocks i) → ⊥) → is_met (tree_of blocks) id (id_at blocks i) ≡ false
   off_line i met within count apart = by_test (is_met (tree_of blocks) id (id_at blocks i)) refl
@@ -102,11 +102,11 @@ module _ (blocks : List Block) (entries : List (Digest × ℕ)) (kept : IsKept b
   met-descends q = refl
 
   head-met : is_met (tree_of blocks) id (tree_of blocks).head ≡ true
-  head-met = met-descends (tree_of blocks).head ∙ descends-from_head (tree_of blocks) kept.tree id c at_id
+  head-met = met-descends (tree_of blocks).head ∙ descends-from_head (tree_of blocks) tree id c at_id
 
   -- the head is on the line, so what is not on it stands behind
   pub off_behind : (i met : ℕ) (below : List Bool) (gone : List Digest) → i < length blocks → IsSorted blocks id i below gone met → (slice_get (line (tree_of blocks) id) met ≡ Some (id_at blocks i) → ⊥) → 0 < i
-  off_behind zero met below gone within sorted apart = absurd (true≢false (sym (ap (is_met (tree_of blocks) id) (head-id blocks entries kept (nonempty blocks entries kept)) ∙ head-met) ∙ off_line 0 met within sorted.count apart))
+  off_behind zero met below gone within sorted apart = absurd (true≢false (sym (ap (is_met (tree_of blocks) id) (head-id blocks tree (nonempty blocks tree)) ∙ head-met) ∙ off_line 0 met within sorted.count apart))
   off_behind (suc i) met below gone within sorted apart = omega arith
 
   -- ---- one block more
@@ -131,9 +131,9 @@ module _ (blocks : List Block) (entries : List (Digest × ℕ)) (kept : IsKept b
       q = id_at blocks i
 
       by_id : (t : Bool) → bytes_eq q id ≡ t → (s : Bool) → descends (tree_of blocks) id q ≡ s → descends (tree_of blocks) id q ≡ bytes_eq q id
-      by_id true same s is = ap (descends (tree_of blocks) id) (same_from q id same) ∙ descends-itself (tree_of blocks) kept.tree id c at_id ∙ sym same
+      by_id true same s is = ap (descends (tree_of blocks) id) (same_from q id same) ∙ descends-itself (tree_of blocks) tree id c at_id ∙ sym same
       by_id false other false is = is ∙ sym other
-      by_id false other true is = absurd (apart_from q id other (descends-both (tree_of blocks) kept.tree q id (at_place blocks entries kept i within).block c (at_place blocks entries kept i within).found at_id (sym (met-descends q) ∙ on) is))
+      by_id false other true is = absurd (apart_from q id other (descends-both (tree_of blocks) tree q id (at_place blocks tree i within).block c (at_place blocks tree i within).found at_id (sym (met-descends q) ∙ on) is))
 
   pub sorted-met : (i met : ℕ) (below : List Bool) (gone : List Digest) → i < length blocks → IsSorted blocks id i below gone met → slice_get (line (tree_of blocks) id) met ≡ Some (id_at blocks i) → IsSorted blocks id (i + 1) (below ++ bytes_eq (id_at blocks i) id ∷ []) gone (met + 1)
   sorted-met i met below gone within sorted at =
@@ -148,9 +148,9 @@ module _ (blocks : List Block) (entries : List (Digest × ℕ)) (kept : IsKept b
   -- whether a block that is not on the line descends, by its prev
   below_prev : (i p : ℕ) → i < length blocks → 0 < i → id_at blocks p ≡ prev_at blocks i → is_met (tree_of blocks) id (id_at blocks i) ≡ false → descends (tree_of blocks) id (id_at blocks i) ≡ descends (tree_of blocks) id (id_at blocks p)
   below_prev i p within behind prev off =
-      let a = at_place blocks entries kept i within in
-      let other : id ≢ id_at blocks i = λ same. true≢false (sym (met-descends id ∙ descends-itself (tree_of blocks) kept.tree id c at_id) ∙ ap (is_met (tree_of blocks) id) same ∙ off) in
-      descends-over (tree_of blocks) kept.tree id (id_at blocks i) a.block a.found (not_head blocks entries kept i within behind)
+      let a = at_place blocks tree i within in
+      let other : id ≢ id_at blocks i = λ same. true≢false (sym (met-descends id ∙ descends-itself (tree_of blocks) tree id c at_id) ∙ ap (is_met (tree_of blocks) id) same ∙ off) in
+      descends-over (tree_of blocks) tree id (id_at blocks i) a.block a.found (not_head blocks tree i within behind)
       ∙ ap₂ (λ (k : List ℕ) (t : Bool). descends (tree_of blocks) id k || t) (sym (prev-at blocks i a.block a.is) ∙ sym prev) (apart_is id (id_at blocks i) other)
       ∙ or_false _
 

@@ -10,10 +10,11 @@ use Rattle.base_core.specs.declared.hash.Digest.{Digest}
 use Rattle.fork_model.specs.Trees.{BlockFault, BlockTree, Header, IsTree, block_fault, block_of, grown, is_live, prev_of}
 use Rattle.fork_model.specs.Laws.{first_id}
 use Rattle.fork_model.proofs.Ids.{apart_is, same-itself, same_or_other}
+use Rattle.fork_model.proofs.Lines.{prev_from}
 use Rattle.fork_model.proofs.Moves.{grown-is}
 use Rattle.fork_model.proofs.Faults.{accepted}
 use Rattle.fork_tree.specs.Answers.{checked}
-use Rattle.fork_tree.specs.Kept.{ForkTree, IsKept, IsPlaced, header_of, headers, place_of, placed, tree_of}
+use Rattle.fork_tree.specs.Kept.{AreLinked, ForkTree, IsKept, IsPlaced, header_of, headers, place_of, placed, tree_of}
 use Rattle.fork_tree.specs.declared.block.Block.{Block}
 use Rattle.fork_tree.proofs.Places.{place-live, place-push, stands_at, StandsAt}
 
@@ -30,6 +31,9 @@ read blocks place x h at is =
 
 pub length-headers : (blocks : List Block) → length (headers blocks) ≡ length blocks
 length-headers blocks = length-map blocks header_of
+
+pub length-same : (blocks others : List Block) → headers blocks ≡ headers others → length blocks ≡ length others
+length-same blocks others same = sym (length-headers blocks) ∙ ap length same ∙ length-headers others
 
 pub turned : (p q : List ℕ) → bytes_eq p q ≡ bytes_eq q p
 turned p q =
@@ -59,12 +63,9 @@ module _ (blocks : List Block) (entries : List (Digest × ℕ)) (kept : IsKept b
   pub placed-read : (q : List ℕ) (place : ℕ) (x : Block) → Some place ≡ placed entries q → x ≡ get_or blocks place x → block_of (headers blocks) q ≡ Some (header_of x)
   placed-read q place x at is = let s = placed-at q place at in s.found ∙ ap Some (sym (read blocks place x s.block s.is is))
 
-  pub nonempty : 0 < length blocks
-  nonempty = by_length blocks kept.tree
-    where
-      by_length : (bs : List Block) → IsTree (tree_of bs) → 0 < length bs
-      by_length [] is = absurd is.grown
-      by_length (b ∷ bs) is = omega arith
+pub nonempty : (blocks : List Block) → IsTree (tree_of blocks) → 0 < length blocks
+nonempty [] is = absurd is.grown
+nonempty (b ∷ blocks) is = omega arith
 
 -- the head is the first block
 pub head-first : (blocks : List Block) (x : Block) → 0 < length blocks → x ≡ get_or blocks 0 x → (tree_of blocks).head ≡ x.id.0
@@ -112,25 +113,49 @@ placed-put blocks b entries after places new put q =
         ap (λ t. cond t (Some (length blocks)) (place_of (headers blocks) q)) (apart_is b.id.0 q (λ e. other (sym e)))
         ∙ sym (ap (λ t. option_or (place_of (headers blocks) q) (cond t (Some (length (headers blocks))) None)) (apart_is q b.id.0 other) ∙ last (place_of (headers blocks) q))
 
-pub kept-push : (most : ℕ) (blocks : List Block) (b : Block) (entries after : List (Digest × ℕ)) → IsKept blocks entries → block_fault most (tree_of blocks) (header_of b) ≡ None → ((q : List ℕ) → placed after q ≡ cond (bytes_eq b.id.0 q) (Some (length blocks)) (placed entries q)) → IsKept (blocks ++ b ∷ []) after
-kept-push most blocks b entries after kept ok put =
+pub kept-push : (most : ℕ) (blocks : List Block) (b : Block) (entries after : List (Digest × ℕ)) → IsKept blocks entries → block_fault most (tree_of blocks) (header_of b) ≡ None → AreLinked (blocks ++ b ∷ []) (length (blocks ++ b ∷ [])) → ((q : List ℕ) → placed after q ≡ cond (bytes_eq b.id.0 q) (Some (length blocks)) (placed entries q)) → IsKept (blocks ++ b ∷ []) after
+kept-push most blocks b entries after kept ok linked put =
     let taken = accepted most (tree_of blocks) (header_of b) ok in
     record {
-      tree = subst IsTree (sym (tree_of-push blocks b (nonempty blocks entries kept))) (grown-is (tree_of blocks) kept.tree (header_of b) taken.new taken.higher);
+      tree = subst IsTree (sym (tree_of-push blocks b (nonempty blocks kept.tree))) (grown-is (tree_of blocks) kept.tree (header_of b) taken.new taken.higher);
+      linked = linked;
       places = placed-put blocks b entries after kept.places taken.new put;
     }
+
+-- the prev of a block that is accepted has a place
+pub prev_live : (most : ℕ) (blocks : List Block) (b : Header) (entries : List (Digest × ℕ)) → IsKept blocks entries → block_fault most (tree_of blocks) b ≡ None → None ≡ placed entries b.prev → ⊥
+prev_live most blocks b entries kept ok none =
+    let prev = prev_from _ _ (accepted most (tree_of blocks) b ok).higher in
+    none_some prev.prev (sym (placed-none blocks entries kept b.prev none) ∙ prev.is)
+  where
+    none_some : (h : Header) → None ≡ Some h → ⊥
+    none_some h e = cc
 
 -- the head alone
 pub kept-first : (b : Block) (entries : List (Digest × ℕ)) → ((q : List ℕ) → placed entries q ≡ cond (bytes_eq b.id.0 q) (Some 0) None) → IsKept (b ∷ []) entries
 unfolding place_of
 kept-first b entries put = record {
   tree = record { grown = refl };
+  linked = λ place block within at. record { earlier = λ behind. absurd (omega (arith, within, behind)); prev = λ behind. absurd (omega (arith, within, behind)) };
   places = λ q. put q ∙ ap (λ t. cond t (Some 0) None) (turned b.id.0 q);
 }
 
 -- another table that answers alike
 pub kept-same : (blocks : List Block) (entries after : List (Digest × ℕ)) → IsKept blocks entries → ((q : List ℕ) → placed after q ≡ placed entries q) → IsKept blocks after
-kept-same blocks entries after kept same = record { tree = kept.tree; places = λ q. same q ∙ kept.places q }
+kept-same blocks entries after kept same = record { tree = kept.tree; linked = kept.linked; places = λ q. same q ∙ kept.places q }
+
+-- other blocks with the same headers
+pub tree-same : (blocks others : List Block) → headers blocks ≡ headers others → tree_of blocks ≡ tree_of others
+tree-same blocks others same =
+    let Shown : List ℕ → List Header → BlockTree = λ h bs. record { head = h; blocks = bs } in
+    ap (λ (hs : List Header). Shown (unwrap_or (first_id hs) []) hs) same
+
+pub kept-linked : (blocks now : List Block) (entries : List (Digest × ℕ)) → IsTree (tree_of blocks) → IsPlaced blocks entries → headers now ≡ headers blocks → AreLinked now (length now) → IsKept now entries
+kept-linked blocks now entries tree places same linked = record {
+  tree = subst IsTree (sym (tree-same now blocks same)) tree;
+  linked = linked;
+  places = λ q. places q ∙ ap (λ hs. place_of hs q) (sym same);
+}
 
 -- ---- the prev of a block
 

@@ -8,13 +8,13 @@ use Rattle.std.proofs.lemmas.List.{append-nil, append_assoc}
 use Rattle.std.proofs.lemmas.List.Folds.{list_any-append}
 use Rattle.byte_model.proofs.Lists.{AllByRecursion-append}
 use Rattle.base_core.specs.declared.hash.Digest.{Digest}
-use Rattle.fork_model.specs.Trees.{BlockTree, is_among, line}
+use Rattle.fork_model.specs.Trees.{BlockTree, IsTree, is_among, line}
 use Rattle.fork_model.proofs.Ids.{same_from, same-itself}
 use Rattle.fork_tree.specs.declared.block.Block.{Block}
 use Rattle.fork_tree.specs.declared.nearest.Search.{Search}
 use Rattle.fork_tree.specs.Kept.{IsKept, header_of, headers, id_at, place_of, placed, prev_at, tree_of}
 use Rattle.fork_tree.specs.Nearest.{IsNearest, Stands, IsCut, NotNearer, IsSearch, way}
-use Rattle.fork_tree.proofs.Before.{block_at_place, id-at, it, prev-id, prev-placed}
+use Rattle.fork_tree.proofs.Before.{block_at_place, id-at, linked-before, linked-prev}
 use Rattle.fork_tree.proofs.Planned.{place-id}
 use Rattle.fork_tree.proofs.Apart.{at_place, head-id, line-at, line-first, places_apart, some_block}
 
@@ -67,32 +67,31 @@ cut-less blocks start at reach place less cut = record {
     from_parts : (p : ℕ) → reach < p → place < p
     from_parts p h = omega (arith, less, h)
 
-module _ (blocks : List Block) (entries : List (Digest × ℕ)) (kept : IsKept blocks entries) where
+module _ (blocks : List Block) (tree : IsTree (tree_of blocks)) where
   pub cut-step : (start at prev place : ℕ) → at < length blocks → place < at → id_at blocks prev ≡ prev_at blocks at → IsCut blocks start at place → IsCut blocks start prev place
   cut-step start at prev place within behind is cut = record {
     beyond = id_at blocks at ∷ cut.beyond;
     parts = cut.parts
-        ∙ ap (λ ids. ids ++ cut.beyond) (line-at blocks entries kept at within (omega (arith, behind)) ∙ ap (λ q. line (tree_of blocks) q ++ id_at blocks at ∷ []) (sym is))
+        ∙ ap (λ ids. ids ++ cut.beyond) (line-at blocks tree at within (omega (arith, behind)) ∙ ap (λ q. line (tree_of blocks) q ++ id_at blocks at ∷ []) (sym is))
         ∙ append_assoc (way blocks prev) (id_at blocks at ∷ []) cut.beyond;
-    later = (record { place = at; is = places_apart blocks kept.tree at within; holds = behind }, cut.later);
+    later = (record { place = at; is = places_apart blocks tree at within; holds = behind }, cut.later);
   }
 
+module _ (blocks : List Block) (entries : List (Digest × ℕ)) (kept : IsKept blocks entries) where
   -- no block of the way stands behind the one to which it leads
   low : (most at : ℕ) → at ≤ most → at < length blocks → AllByRecursion (Stands blocks (λ p. p ≤ at)) (way blocks at)
   low most zero few within =
-      subst (AllByRecursion (Stands blocks (λ p. p ≤ 0))) (sym (line-first blocks entries kept within)) (record { place = 0; is = places_apart blocks kept.tree 0 within; holds = omega arith }, tt)
+      subst (AllByRecursion (Stands blocks (λ p. p ≤ 0))) (sym (line-first blocks kept.tree within)) (record { place = 0; is = places_apart blocks kept.tree 0 within; holds = omega arith }, tt)
   low zero (suc at) few within = absurd (omega (arith, few))
   low (suc most) (suc at) few within =
       let x : Block = get_or blocks (suc at) some_block in
-      let there = slice_get-get_or blocks (suc at) some_block within in
       let behind : 0 < suc at = omega arith in
-      let prev = it blocks entries kept (suc at) x there behind in
-      let earlier : prev.at < suc at = prev.before in
-      let rest : AllByRecursion (Stands blocks (λ p. p ≤ prev.at)) (way blocks prev.at) = low most prev.at (omega (arith, earlier, few)) (omega (arith, earlier, within)) in
-      let is : id_at blocks prev.at ≡ prev_at blocks (suc at) = prev-id blocks entries kept (suc at) x there behind prev.at (sym (prev-placed blocks entries kept (suc at) x there behind)) in
-      subst (AllByRecursion (Stands blocks (λ p. p ≤ suc at))) (sym (line-at blocks entries kept (suc at) within behind ∙ ap (λ q. line (tree_of blocks) q ++ id_at blocks (suc at) ∷ []) (sym is)))
-      (AllByRecursion-append (Stands blocks (λ p. p ≤ suc at)) (way blocks prev.at) (id_at blocks (suc at) ∷ [])
-      (all-weaker (λ q s. record { place = s.place; is = s.is; holds = from_parts prev.at s.place earlier s.holds }) (way blocks prev.at) rest)
+      let earlier : x.before < suc at = linked-before blocks (length blocks) kept.linked (suc at) some_block within within behind in
+      let rest : AllByRecursion (Stands blocks (λ p. p ≤ x.before)) (way blocks x.before) = low most x.before (omega (arith, earlier, few)) (omega (arith, earlier, within)) in
+      let is : id_at blocks x.before ≡ prev_at blocks (suc at) = linked-prev blocks (length blocks) kept.linked (suc at) some_block within within behind in
+      subst (AllByRecursion (Stands blocks (λ p. p ≤ suc at))) (sym (line-at blocks kept.tree (suc at) within behind ∙ ap (λ q. line (tree_of blocks) q ++ id_at blocks (suc at) ∷ []) (sym is)))
+      (AllByRecursion-append (Stands blocks (λ p. p ≤ suc at)) (way blocks x.before) (id_at blocks (suc at) ∷ [])
+      (all-weaker (λ q s. record { place = s.place; is = s.is; holds = from_parts x.before s.place earlier s.holds }) (way blocks x.before) rest)
       (record { place = suc at; is = places_apart blocks kept.tree (suc at) within; holds = omega arith }, tt))
     where
       from_parts : (n p : ℕ) → n < suc at → p ≤ n → p ≤ suc at
@@ -104,15 +103,13 @@ module _ (blocks : List Block) (entries : List (Digest × ℕ)) (kept : IsKept b
   behind_head zero (suc at) few within = absurd (omega (arith, few))
   behind_head (suc most) (suc at) few within =
       let x : Block = get_or blocks (suc at) some_block in
-      let there = slice_get-get_or blocks (suc at) some_block within in
       let behind : 0 < suc at = omega arith in
-      let prev = it blocks entries kept (suc at) x there behind in
-      let earlier : prev.at < suc at = prev.before in
-      let rest : IsCut blocks prev.at 0 0 = behind_head most prev.at (omega (arith, earlier, few)) (omega (arith, earlier, within)) in
-      let is : id_at blocks prev.at ≡ prev_at blocks (suc at) = prev-id blocks entries kept (suc at) x there behind prev.at (sym (prev-placed blocks entries kept (suc at) x there behind)) in
+      let earlier : x.before < suc at = linked-before blocks (length blocks) kept.linked (suc at) some_block within within behind in
+      let rest : IsCut blocks x.before 0 0 = behind_head most x.before (omega (arith, earlier, few)) (omega (arith, earlier, within)) in
+      let is : id_at blocks x.before ≡ prev_at blocks (suc at) = linked-prev blocks (length blocks) kept.linked (suc at) some_block within within behind in
       record {
         beyond = rest.beyond ++ id_at blocks (suc at) ∷ [];
-        parts = line-at blocks entries kept (suc at) within behind ∙ ap (λ q. line (tree_of blocks) q ++ id_at blocks (suc at) ∷ []) (sym is)
+        parts = line-at blocks kept.tree (suc at) within behind ∙ ap (λ q. line (tree_of blocks) q ++ id_at blocks (suc at) ∷ []) (sym is)
             ∙ ap (λ ids. ids ++ id_at blocks (suc at) ∷ []) rest.parts ∙ append_assoc (way blocks 0) rest.beyond (id_at blocks (suc at) ∷ []);
         later = AllByRecursion-append (Stands blocks (λ p. 0 < p)) rest.beyond (id_at blocks (suc at) ∷ []) rest.later (record { place = suc at; is = places_apart blocks kept.tree (suc at) within; holds = behind }, tt);
       }
@@ -202,11 +199,11 @@ module _ (blocks : List Block) (entries : List (Digest × ℕ)) (kept : IsKept b
     way = is.best.parts;
     others = none (way blocks search.nearest) is.best.beyond is.best.parts is.best.later;
     one = first is.one;
-    live = ap is_some (at_place blocks entries kept search.nearest is.there).found;
+    live = ap is_some (at_place blocks kept.tree search.nearest is.there).found;
   }
     where
       first : (search.nearest ≡ 0) ⊎ (is_among (id_at blocks search.nearest) met ≡ true) → (id_at blocks search.nearest ≡ (tree_of blocks).head) ⊎ (is_among (id_at blocks search.nearest) met ≡ true)
-      first (inl e) = inl (ap (id_at blocks) e ∙ head-id blocks entries kept some)
+      first (inl e) = inl (ap (id_at blocks) e ∙ head-id blocks kept.tree some)
       first (inr e) = inr e
 
       clash : (p : ℕ) → search.nearest < p → p ≤ search.nearest → ⊥

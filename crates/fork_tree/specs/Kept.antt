@@ -1,6 +1,7 @@
 -- How the tree of live blocks is kept: the blocks in the order of acceptance, and a table with the place of each by its id.
-use Rattle.std.specs.Prelude.{◌≡◌, ◌≤◌, ℕ, ◌+◌, List, [], ◌∷◌, length, map, Option, None, Some, unwrap_or, slice_index_or, if◌then◌else◌, refl}
+use Rattle.std.specs.Prelude.{◌≡◌, ◌≤◌, ◌<◌, ℕ, ◌+◌, List, [], ◌∷◌, length, map, Option, None, Some, unwrap_or, slice_index_or, if◌then◌else◌, refl}
 use Rattle.std.specs.Option.{option_map}
+use Rattle.std.specs.List.{slice_get}
 use Rattle.std.specs.Map.{lookup}
 use Rattle.std.specs.Str.{bytes_eq}
 use Rattle.std.specs.Coded.{Coded, code_by, coded×, coded_ℕ, coded_list}
@@ -54,18 +55,28 @@ left head before gone id place = if is_among id gone then None else (if is_among
 abbrev pub IsPlaced : List Block → List (Digest × ℕ) → Type 0
 IsPlaced blocks entries = (id : List ℕ) → placed entries id ≡ place_of (headers blocks) id
 
-pub record IsKept (blocks : List Block) (entries : List (Digest × ℕ)) : Type 0 where
-  pub tree : IsTree (tree_of blocks)
-  pub places : IsPlaced blocks entries
-
--- and no more blocks are live than may be
-pub record IsBounded (blocks : List Block) (entries : List (Digest × ℕ)) (most : ℕ) : Type 0 where
-  pub kept : IsKept blocks entries
-  pub bounded : length blocks ≤ most
-
 -- the id and the prev of the block at a place
 abbrev pub id_at : List Block → ℕ → List ℕ
 id_at blocks place = slice_index_or (ids_of (headers blocks)) place []
 
 abbrev pub prev_at : List Block → ℕ → List ℕ
 prev_at blocks place = slice_index_or (map (λ block. block.prev) (headers blocks)) place []
+
+-- a block behind the head has the place of its prev, which stands before it
+pub record IsLinked (blocks : List Block) (place : ℕ) (block : Block) : Type 0 where
+  pub earlier : 0 < place → block.before < place
+  pub prev : 0 < place → id_at blocks block.before ≡ block.prev.0
+
+-- and so has each of the first blocks
+abbrev pub AreLinked : List Block → (count : ℕ) → Type 0
+AreLinked blocks count = (place : ℕ) (block : Block) → place < count → slice_get blocks place ≡ Some block → IsLinked blocks place block
+
+pub record IsKept (blocks : List Block) (entries : List (Digest × ℕ)) : Type 0 where
+  pub tree : IsTree (tree_of blocks)
+  pub linked : AreLinked blocks (length blocks)
+  pub places : IsPlaced blocks entries
+
+-- and no more blocks are live than may be
+pub record IsBounded (blocks : List Block) (entries : List (Digest × ℕ)) (most : ℕ) : Type 0 where
+  pub kept : IsKept blocks entries
+  pub bounded : length blocks ≤ most

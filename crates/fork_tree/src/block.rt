@@ -6,7 +6,6 @@ pub(crate) struct Block {
     pub(crate) id: Digest,
     pub(crate) prev: Digest,
     pub(crate) height: u64,
-    /// How many places before this block its prev stood when the block was added. A move of the head
-    /// may take blocks between them away.
-    pub(crate) gap: usize,
+    /// The place of its prev, and 0 for the head.
+    pub(crate) before: usize,
 }

@@ -5,11 +5,11 @@ ghost use Rattle.fork_tree.specs.Answers.{IsPlan, checked};
 ghost use Rattle.fork_tree.specs.Nearest.{IsNearest};
 
 use crate::block::Block;
-use crate::commits::{forget_all, keep_placed, put_places};
+use crate::commits::{forget_all, keep_placed, link_all, put_places};
 use crate::errors::{ForkError, MoveError};
 use crate::ids::{Ids, Move};
 use crate::nearest::nearest_to;
-use crate::plans::{dropped_by, gap_to, line_to};
+use crate::plans::{dropped_by, line_to};
 use base_core::Digest;
 use std::alloc::{AllocError, Global};
 use std::collections::HashMap;
@@ -55,7 +55,7 @@ impl Forks {
             id: Digest::ZERO,
             prev: Digest::ZERO,
             height: 0,
-            gap: 0,
+            before: 0,
         };
         let mut live = Vec::new(alloc);
         live.push(head)?;
@@ -104,12 +104,16 @@ impl Forks {
         ensures room { self.old.spare ≤ self.new.spare + 1 }
     {
         let place = self.live.len();
-        let gap = gap_to(&self.places, &prev, place);
+        let Some(before) = self.places.get(&prev) else {
+            // The prev is live.
+            unreachable!()
+        };
+        let before = *before;
         match self.live.push(Block {
             id,
             prev,
             height,
-            gap,
+            before,
         }) {
             Ok(()) => {}
             // There is room.
@@ -183,8 +187,8 @@ impl Forks {
         let Some(place) = self.places.get(id) else {
             return Err(MoveError::NotLive);
         };
-        let mut line = line_to(alloc, &self.live, &self.places, *place)?;
-        let dropped = dropped_by(alloc, &self.live, &self.places, id, &line)?;
+        let mut line = line_to(alloc, &self.live, *place)?;
+        let dropped = dropped_by(alloc, &self.live, id, &line)?;
         // The head is on the line, and is not passed.
         line.remove(0);
         Ok(Move {
@@ -207,9 +211,11 @@ impl Forks {
             return;
         };
         // What does not stay is taken from the table, and then from the list. What stays closes up
-        // in its order, and each place is written over the former one, so no memory is taken.
+        // in its order, and each place is written over the former one, in the table and then in the
+        // blocks that stand on it, so no memory is taken.
         forget_all(&mut self.places, &head, before, m.dropped.as_slice());
         keep_placed(&mut self.live, &self.places);
         put_places(&mut self.places, &self.live);
+        link_all(&mut self.live, &self.places);
     }
 }

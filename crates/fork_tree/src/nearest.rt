@@ -1,5 +1,6 @@
 ghost use Rattle.std.specs.Prelude.{◌≡◌, ◌≤◌, ◌<◌, ◌∷◌, ℕ, List, length, map};
-ghost use Rattle.fork_tree.specs.Kept.{IsKept, id_at, tree_of};
+ghost use Rattle.fork_model.specs.Trees.{IsTree};
+ghost use Rattle.fork_tree.specs.Kept.{AreLinked, IsKept, id_at, tree_of};
 ghost use Rattle.fork_tree.specs.Nearest.{IsCut, IsNearest, IsSearch};
 
 use crate::block::Block;
@@ -66,7 +67,7 @@ fn meet(
         return search;
     }
     let from = resume(blocks, start, search, place);
-    let at = way_back(blocks, places, from, place);
+    let at = way_back(blocks, from, place);
     if at == place {
         return Search {
             at,
@@ -97,8 +98,9 @@ fn resume(blocks: &[Block], start: usize, search: Search, place: usize) -> usize
 }
 
 /// The place of the first block on the way from one to the head that is not behind another place.
-fn way_back(blocks: &[Block], places: &HashMap<Digest, usize>, from: usize, place: usize) -> usize
-    requires kept { IsKept blocks.now places.now.entries }
+fn way_back(blocks: &[Block], from: usize, place: usize) -> usize
+    requires tree { IsTree (tree_of blocks.now) }
+    requires linked { AreLinked blocks.now (length blocks.now) }
     requires within { from < length blocks.now }
     ensures within { result < length blocks.now }
     ensures reached { result ≤ place }
@@ -106,7 +108,7 @@ fn way_back(blocks: &[Block], places: &HashMap<Digest, usize>, from: usize, plac
 {
     let mut at = from;
     while at > place {
-        at = place_before(blocks, places, at);
+        at = place_before(blocks, at);
     }
     at
 }

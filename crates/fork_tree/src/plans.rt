@@ -1,21 +1,20 @@
 ghost use Rattle.std.specs.Prelude.{◌≡◌, ◌<◌, ◌↔◌, length, map, IfOk, IsTrue, Some};
 ghost use Rattle.std.specs.List.{slice_get};
-ghost use Rattle.fork_model.specs.Trees.{dropped, is_live, line};
-ghost use Rattle.fork_tree.specs.Kept.{IsKept, id_at, prev_at, tree_of};
+ghost use Rattle.fork_model.specs.Trees.{IsTree, dropped, is_live, line};
+ghost use Rattle.fork_tree.specs.Kept.{AreLinked, id_at, prev_at, tree_of};
 
 use crate::block::Block;
 use base_core::Digest;
 use std::alloc::{AllocError, Global};
-use std::collections::HashMap;
 
 /// The blocks from the head to the one at a place, in order.
 pub(crate) fn line_to(
     alloc: Global,
     blocks: &[Block],
-    places: &HashMap<Digest, usize>,
     place: usize,
 ) -> Result<Vec<Digest>, AllocError>
-    requires kept { IsKept blocks.now places.now.entries }
+    requires tree { IsTree (tree_of blocks.now) }
+    requires linked { AreLinked blocks.now (length blocks.now) }
     requires within { place < length blocks.now }
     ensures { IfOk result (λ ids. map (λ id. id.0) ids.items ≡ line (tree_of blocks.now) (id_at blocks.now place)) }
 {
@@ -23,7 +22,7 @@ pub(crate) fn line_to(
     let mut at = place;
     while at > 0 {
         ids.push(blocks[at].id)?;
-        at = place_before(blocks, places, at);
+        at = place_before(blocks, at);
     }
     ids.push(blocks[0].id)?;
     ids.reverse();
@@ -31,34 +30,14 @@ pub(crate) fn line_to(
 }
 
 /// The place of the block on which one stands that is not the head.
-pub(crate) fn place_before(blocks: &[Block], places: &HashMap<Digest, usize>, place: usize) -> usize
-    requires kept { IsKept blocks.now places.now.entries }
+pub(crate) fn place_before(blocks: &[Block], place: usize) -> usize
+    requires linked { AreLinked blocks.now (length blocks.now) }
     requires within { place < length blocks.now }
     requires behind { 0 < place }
     ensures earlier { result < place }
     ensures prev { id_at blocks.now result ≡ prev_at blocks.now place }
 {
-    let block = &blocks[place];
-    // In most cases the gap is still right, and nothing is hashed.
-    let near = place.saturating_sub(block.gap);
-    if near < place {
-        if blocks[near].id == block.prev {
-            return near;
-        }
-    }
-    match places.get(&block.prev) {
-        Some(before) => *before,
-        // The prev is live.
-        None => unreachable!(),
-    }
-}
-
-/// How many places before a place a block stands, and 0 where it is not live.
-pub(crate) fn gap_to(places: &HashMap<Digest, usize>, id: &Digest, place: usize) -> usize {
-    match places.get(id) {
-        Some(before) => place.saturating_sub(*before),
-        None => 0,
-    }
+    blocks[place].before
 }
 
 /// The live blocks that are neither on the line to a block nor descend from it, in their order.
@@ -66,11 +45,11 @@ pub(crate) fn gap_to(places: &HashMap<Digest, usize>, id: &Digest, place: usize)
 pub(crate) fn dropped_by(
     alloc: Global,
     blocks: &[Block],
-    places: &HashMap<Digest, usize>,
     id: &Digest,
     through: &[Digest],
 ) -> Result<Vec<Digest>, AllocError>
-    requires kept { IsKept blocks.now places.now.entries }
+    requires tree { IsTree (tree_of blocks.now) }
+    requires linked { AreLinked blocks.now (length blocks.now) }
     requires live { IsTrue (is_live (tree_of blocks.now) id.now.0) }
     requires through { map (λ id. id.0) through.now ≡ line (tree_of blocks.now) id.now.0 }
     ensures { IfOk result (λ ids. map (λ id. id.0) ids.items ≡ dropped (tree_of blocks.now) id.now.0) }
@@ -82,7 +61,7 @@ pub(crate) fn dropped_by(
         if is_next(through, met, &block.id) {
             met += 1;
             descends.push(block.id == *id)?;
-        } else if descends[place_before(blocks, places, place)] {
+        } else if descends[place_before(blocks, place)] {
             descends.push(true)?;
         } else {
             descends.push(false)?;

@@ -99,3 +99,53 @@ fn the_head_moves(rt: HostRuntime) -> Result<(), Fail> {
     assert_eq!(rt; forks.len(), 1);
     Ok(())
 }
+
+/// What steps from block to prev come to: one of some blocks, or the head.
+fn walked(forks: &Forks, block: Digest, ids: &[Digest]) -> Digest {
+    let mut at = block;
+    for _ in 0..forks.len() {
+        if ids.contains(&at) {
+            return at;
+        }
+        match forks.prev_of(&at) {
+            Some(prev) => at = prev,
+            None => return at,
+        }
+    }
+    at
+}
+
+/// Compares the nearest of some blocks with the walk, for each live block.
+fn expect_walked(rt: &impl Abort, forks: &Forks, ids: &[Digest]) {
+    for n in 0..120 {
+        let block = id(n);
+        if forks.is_live(&block) {
+            assert!(rt; forks.nearest(&block, ids) == walked(forks, block, ids));
+        }
+    }
+}
+
+#[test]
+fn nearest_blocks(rt: HostRuntime) -> Result<(), Fail> {
+    let mut forks = Forks::new(rt.alloc(), 4096)?;
+    let mut ids = Vec::new(rt.alloc());
+    for n in 1..120u8 {
+        let prev = if n % 16 == 9 {
+            n / 2
+        } else {
+            n.saturating_sub(1)
+        };
+        assert_eq!(rt; offer(&mut forks, n, prev, n as u64)?, None);
+        if n % 11 == 5 {
+            ids.push(id(n))?;
+        }
+    }
+    expect_walked(&rt, &forks, &ids);
+    for (head, again) in [(3, 2), (11, 10), (20, 19)] {
+        move_head(&mut forks, rt.alloc(), head)?;
+        assert_eq!(rt; offer(&mut forks, again, 119, 120)?, None);
+        expect_walked(&rt, &forks, &ids);
+    }
+    assert_eq!(rt; forks.len(), 55);
+    Ok(())
+}

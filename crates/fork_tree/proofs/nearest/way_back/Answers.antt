@@ -8,5 +8,5 @@ loop-at-init c = (c.requires.within, λ start cut. cut)
 pub loop-at-preserved : goal.loop-at-preserved
 loop-at-preserved c = (
   omega (arith, c.place_before-at.ensures.earlier, c.loop-at.invariant.0),
-  λ start cut. cut-step c.args.blocks.now c.args.places.now.entries c.requires.kept start c.loop-at.at c.place_before-at.result c.args.place c.loop-at.invariant.0 (omega (arith, c.loop-at-test.true)) c.place_before-at.ensures.prev (c.loop-at.invariant.1 start cut),
+  λ start cut. cut-step c.args.blocks.now c.requires.tree start c.loop-at.at c.place_before-at.result c.args.place c.loop-at.invariant.0 (omega (arith, c.loop-at-test.true)) c.place_before-at.ensures.prev (c.loop-at.invariant.1 start cut),
 )

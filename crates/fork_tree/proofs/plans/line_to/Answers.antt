@@ -8,7 +8,7 @@ use Rattle.fork_tree.proofs.plans.line_to.Goals as goal
 pub loop-at-preserved : goal.loop-at-preserved
 loop-at-preserved c = (
   omega (arith, c.place_before-at.ensures.earlier, c.loop-at.invariant.0),
-  line-back c.args.blocks.now c.args.places.now.entries c.requires.kept c.loop-at.at c.place_before-at.result _ _ c.loop-at.ids.items c.loop-at.invariant.0 (omega (arith, c.loop-at-test.true)) c.place_before-at.ensures.prev c.loop-at.invariant.1
+  line-back c.args.blocks.now c.requires.tree c.loop-at.at c.place_before-at.result _ _ c.loop-at.ids.items c.loop-at.invariant.0 (omega (arith, c.loop-at-test.true)) c.place_before-at.ensures.prev c.loop-at.invariant.1
       ∙ ap (λ ids. line (tree_of c.args.blocks.now) (id_at c.args.blocks.now c.place_before-at.result) ++ reverse (map (λ (k : Digest). k.0) ids)) (sym c.in_ok-push.ensures.items),
 )
 
@@ -17,4 +17,4 @@ returns c =
     let at_head : c.loop-at.at ≡ 0 = omega (arith, c.loop-at-test.false) in
     let before = subst (λ at. line (tree_of c.args.blocks.now) (id_at c.args.blocks.now c.args.place) ≡ line (tree_of c.args.blocks.now) (id_at c.args.blocks.now at) ++ reverse (map (λ (k : Digest). k.0) c.loop-at.ids.items)) at_head c.loop-at.invariant.1 in
     ap (map (λ (k : Digest). k.0)) (c.reverse.ensures.items ∙ ap reverse c.in_ok-push-2.ensures.items)
-    ∙ line-whole c.args.blocks.now c.args.places.now.entries c.requires.kept _ _ c.loop-at.ids.items (omega (arith, c.requires.within)) before
+    ∙ line-whole c.args.blocks.now c.requires.tree _ _ c.loop-at.ids.items (omega (arith, c.requires.within)) before

@@ -4,8 +4,15 @@ use Rattle.std.specs.Str.{bytes_eq}
 use Rattle.fork_model.specs.Trees.{block_fault}
 use Rattle.fork_model.proofs.Faults.{accepted}
 use Rattle.fork_tree.specs.Kept.{IsKept, placed}
-use Rattle.fork_tree.proofs.Kept.{kept-push, length-headers}
+use Rattle.fork_tree.proofs.Kept.{kept-push, length-headers, placed-within, prev_live}
+use Rattle.fork_tree.proofs.Linking.{linked-push}
+use Rattle.fork_tree.proofs.Planned.{place-id}
 use Rattle.fork_tree.proofs.forks.Forks.add.Goals as goal
+
+pub unreachable-requires : goal.unreachable-requires
+unreachable-requires c =
+    let ok = ap (λ s. block_fault s.most s.tree (record { id = c.args.id.0; prev = c.args.prev.0; height = c.args.height })) c.self.view_is ∙ c.requires.accepted in
+    prev_live _ _ _ _ c.self.invariant.kept ok c.in_default.ensures.value
 
 pub invariant_of-self : goal.invariant_of-self
 invariant_of-self c =
@@ -15,9 +22,12 @@ invariant_of-self c =
     let room = taken.room in
     let all = length-headers c.self.inside.live.items in
     let more = ap length c.in-Ok.ensures.items ∙ length-append c.self.inside.live.items _ in
+    let before = c.in-Some.ensures.value in
+    let linked = linked-push c.self.inside.live.items (record { id = c.args.id; prev = c.args.prev; height = c.args.height; before = c.in-Some.before.now }) c.self.invariant.kept.linked
+    (placed-within _ _ c.self.invariant.kept c.args.prev.0 _ before) (place-id _ _ c.self.invariant.kept c.args.prev.0 _ before) in
     record {
       kept = subst (λ blocks. IsKept blocks c.insert.new.self.entries) (sym c.in-Ok.ensures.items)
-          (kept-push _ _ _ _ c.insert.new.self.entries c.self.invariant.kept ok
+          (kept-push _ _ _ _ c.insert.new.self.entries c.self.invariant.kept ok linked
           (λ q. c.in-Ok-insert.ensures.updates.0 (record { 0 = q }) ∙ ap (λ n. cond (bytes_eq c.args.id.0 q) (Some n) (placed c.self.inside.places.entries q)) place));
       bounded = omega (arith, room, all, more);
     }

@@ -8,7 +8,7 @@ use Rattle.fork_tree.proofs.forks.Forks.new.Goals as goal
 
 pub invariant_of-result : goal.invariant_of-result
 invariant_of-result c =
-    let head : Block = record { id = record { 0 = zero_digest }; prev = record { 0 = zero_digest }; height = 0; gap = 0 } in
+    let head : Block = record { id = record { 0 = zero_digest }; prev = record { 0 = zero_digest }; height = 0; before = 0 } in
     let items = c.in_ok-push.ensures.items ∙ ap (λ xs. xs ++ head ∷ []) c.new-live.ensures.items in
     let one = ap length items in
     record {

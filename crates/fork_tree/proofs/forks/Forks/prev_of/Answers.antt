@@ -10,14 +10,14 @@ index-requires-in-Some c = let w = placed-within _ _ c.self.invariant.kept c.arg
 
 pub returns-in-Some : goal.returns-in-Some
 returns-in-Some c =
-    let first = head-first c.self.inside.live.items c.index.result.now (nonempty _ _ c.self.invariant.kept) c.index.ensures in
+    let first = head-first c.self.inside.live.items c.index.result.now (nonempty c.self.inside.live.items c.self.invariant.kept.tree) c.index.ensures in
     let other : c.args.id.now.0 ≢ (tree_of c.self.inside.live.items).head = λ same. apart_by_eq _ _ _ c.if-eq.false c.eq.ensures (same ∙ first) in
     sym (prev-found c.self.inside.live.items c.args.id.now.0 (Some (header_of c.index-in-Some.result.now)) other (placed-read _ _ c.self.invariant.kept c.args.id.now.0 _ c.index-in-Some.result.now c.in-Some.ensures.value c.index-in-Some.ensures))
     ∙ ap (λ s. prev_of s.tree c.args.id.now.0) c.self.view_is
 
 pub returns-in-None : goal.returns-in-None
 returns-in-None c =
-    let first = head-first c.self.inside.live.items c.index.result.now (nonempty _ _ c.self.invariant.kept) c.index.ensures in
+    let first = head-first c.self.inside.live.items c.index.result.now (nonempty c.self.inside.live.items c.self.invariant.kept.tree) c.index.ensures in
     let other : c.args.id.now.0 ≢ (tree_of c.self.inside.live.items).head = λ same. apart_by_eq _ _ _ c.if-eq.false c.eq.ensures (same ∙ first) in
     sym (prev-found c.self.inside.live.items c.args.id.now.0 None other (placed-none _ _ c.self.invariant.kept c.args.id.now.0 c.in-None.ensures.value))
     ∙ ap (λ s. prev_of s.tree c.args.id.now.0) c.self.view_is
