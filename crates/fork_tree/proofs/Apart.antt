@@ -16,7 +16,7 @@ use Rattle.fork_tree.proofs.Before.{block_at_place, id-at, prev-at}
 
 -- any block, which is read where there is none
 abbrev pub some_block : Block
-some_block = record { id = record { 0 = [] }; prev = record { 0 = [] }; height = 0; before = 0 }
+some_block = record { id = record { 0 = [] }; prev = record { 0 = [] }; height = 0; links = record { before = 0; jump = 0; depth = 0 } }
 
 -- what stands in a list is found by its id
 stands_found : (bs : List Header) (i : ℕ) (h : Header) → slice_get bs i ≡ Some h → found id_key bs h.id ≡ None → ⊥

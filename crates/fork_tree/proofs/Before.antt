@@ -7,7 +7,7 @@ use Rattle.base_core.specs.declared.hash.Digest.{Digest}
 use Rattle.fork_model.specs.Trees.{Header, IsTree, block_of, ids_of}
 use Rattle.fork_model.proofs.Ids.{found-key}
 use Rattle.fork_model.proofs.Lines.{id_key}
-use Rattle.fork_tree.specs.Kept.{AreLinked, IsPlaced, header_of, headers, id_at, placed, prev_at, tree_of}
+use Rattle.fork_tree.specs.Kept.{AreLinked, IsLinked, IsPlaced, header_of, headers, id_at, placed, prev_at, tree_of}
 use Rattle.fork_tree.specs.declared.block.Block.{Block}
 use Rattle.fork_tree.proofs.Earlier.{IsEarlier, earlier}
 use Rattle.fork_tree.proofs.Places.{stands_at}
@@ -49,13 +49,9 @@ module _ (blocks : List Block) (entries : List (Digest × ℕ)) (tree : IsTree (
       let s = stands_at (headers blocks) x.prev.0 n (sym (places x.prev.0) ∙ sym at) in
       id-at blocks n s.block s.is ∙ sym (block_of-id (headers blocks) x.prev.0 s.block s.found) ∙ sym (prev-at blocks place (header_of x) (block_at_place blocks place x is))
 
--- what a block keeps of its prev
-module _ (blocks : List Block) (count : ℕ) (linked : AreLinked blocks count) (place : ℕ) (d : Block) (within : place < length blocks) (counted : place < count) (behind : 0 < place) where
-  there : slice_get blocks place ≡ Some (get_or blocks place d)
-  there = slice_get-get_or blocks place d within
+-- what the links of a block tell of its prev
+pub links-at : (blocks : List Block) (count : ℕ) → AreLinked blocks count → (place : ℕ) (d : Block) → place < length blocks → place < count → IsLinked blocks place (get_or blocks place d).links
+links-at blocks count linked place d within counted = linked place (get_or blocks place d) counted (slice_get-get_or blocks place d within)
 
-  pub linked-before : (get_or blocks place d).before < place
-  linked-before = (linked place (get_or blocks place d) counted there).earlier behind
-
-  pub linked-prev : id_at blocks (get_or blocks place d).before ≡ prev_at blocks place
-  linked-prev = (linked place (get_or blocks place d) counted there).prev behind ∙ sym (prev-at blocks place _ (block_at_place blocks place _ there))
+pub jump-earlier : (blocks : List Block) (count : ℕ) → AreLinked blocks count → (place : ℕ) (d : Block) → place < length blocks → place < count → 0 < place → (get_or blocks place d).links.jump < place
+jump-earlier blocks count linked place d within counted behind = let link = links-at blocks count linked place d within counted in let b = link.back in omega (arith, b, behind)

@@ -113,11 +113,16 @@ placed-put blocks b entries after places new put q =
         ap (λ t. cond t (Some (length blocks)) (place_of (headers blocks) q)) (apart_is b.id.0 q (λ e. other (sym e)))
         ∙ sym (ap (λ t. option_or (place_of (headers blocks) q) (cond t (Some (length (headers blocks))) None)) (apart_is q b.id.0 other) ∙ last (place_of (headers blocks) q))
 
+pub tree-push : (most : ℕ) (blocks : List Block) (b : Block) → IsTree (tree_of blocks) → block_fault most (tree_of blocks) (header_of b) ≡ None → IsTree (tree_of (blocks ++ b ∷ []))
+tree-push most blocks b tree ok =
+    let taken = accepted most (tree_of blocks) (header_of b) ok in
+    subst IsTree (sym (tree_of-push blocks b (nonempty blocks tree))) (grown-is (tree_of blocks) tree (header_of b) taken.new taken.higher)
+
 pub kept-push : (most : ℕ) (blocks : List Block) (b : Block) (entries after : List (Digest × ℕ)) → IsKept blocks entries → block_fault most (tree_of blocks) (header_of b) ≡ None → AreLinked (blocks ++ b ∷ []) (length (blocks ++ b ∷ [])) → ((q : List ℕ) → placed after q ≡ cond (bytes_eq b.id.0 q) (Some (length blocks)) (placed entries q)) → IsKept (blocks ++ b ∷ []) after
 kept-push most blocks b entries after kept ok linked put =
     let taken = accepted most (tree_of blocks) (header_of b) ok in
     record {
-      tree = subst IsTree (sym (tree_of-push blocks b (nonempty blocks kept.tree))) (grown-is (tree_of blocks) kept.tree (header_of b) taken.new taken.higher);
+      tree = tree-push most blocks b kept.tree ok;
       linked = linked;
       places = placed-put blocks b entries after kept.places taken.new put;
     }
@@ -132,11 +137,11 @@ prev_live most blocks b entries kept ok none =
     none_some h e = cc
 
 -- the head alone
-pub kept-first : (b : Block) (entries : List (Digest × ℕ)) → ((q : List ℕ) → placed entries q ≡ cond (bytes_eq b.id.0 q) (Some 0) None) → IsKept (b ∷ []) entries
+pub kept-first : (b : Block) (entries : List (Digest × ℕ)) → AreLinked (b ∷ []) 1 → ((q : List ℕ) → placed entries q ≡ cond (bytes_eq b.id.0 q) (Some 0) None) → IsKept (b ∷ []) entries
 unfolding place_of
-kept-first b entries put = record {
+kept-first b entries linked put = record {
   tree = record { grown = refl };
-  linked = λ place block within at. record { earlier = λ behind. absurd (omega (arith, within, behind)); prev = λ behind. absurd (omega (arith, within, behind)) };
+  linked = linked;
   places = λ q. put q ∙ ap (λ t. cond t (Some 0) None) (turned b.id.0 q);
 }
 

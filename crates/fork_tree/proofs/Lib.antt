@@ -6,6 +6,8 @@ pub mod Earlier
 pub mod Kept
 -- the place before one
 pub mod Before
+-- ways and what is gone of them
+pub mod Cuts
 -- blocks that are linked to their prevs
 pub mod Linking
 -- the table as it changes

@@ -4,25 +4,22 @@ use Rattle.std.specs.List.{AllByRecursion}
 use Rattle.std.specs.Str.{bytes_eq}
 use Rattle.std.proofs.lemmas.Bool.{false≢true}
 use Rattle.std.proofs.lemmas.Option.{slice_get-get_or}
-use Rattle.std.proofs.lemmas.List.{append-nil, append_assoc}
+use Rattle.std.proofs.lemmas.List.{append_assoc}
 use Rattle.std.proofs.lemmas.List.Folds.{list_any-append}
 use Rattle.byte_model.proofs.Lists.{AllByRecursion-append}
 use Rattle.base_core.specs.declared.hash.Digest.{Digest}
-use Rattle.fork_model.specs.Trees.{BlockTree, IsTree, is_among, line}
+use Rattle.fork_model.specs.Trees.{BlockTree, is_among, line}
 use Rattle.fork_model.proofs.Ids.{same_from, same-itself}
 use Rattle.fork_tree.specs.declared.block.Block.{Block}
 use Rattle.fork_tree.specs.declared.nearest.Search.{Search}
-use Rattle.fork_tree.specs.Kept.{IsKept, header_of, headers, id_at, place_of, placed, prev_at, tree_of}
-use Rattle.fork_tree.specs.Nearest.{IsNearest, Stands, IsCut, NotNearer, IsSearch, way}
-use Rattle.fork_tree.proofs.Before.{block_at_place, id-at, linked-before, linked-prev}
+use Rattle.fork_tree.specs.Kept.{IsCut, IsKept, Stands, header_of, headers, id_at, place_of, placed, prev_at, tree_of, way}
+use Rattle.fork_tree.specs.Nearest.{IsNearest, NotNearer, IsSearch}
+use Rattle.fork_tree.proofs.Cuts.{all-weaker, cut-start}
+use Rattle.fork_tree.proofs.Before.{block_at_place, id-at, links-at}
 use Rattle.fork_tree.proofs.Planned.{place-id}
 use Rattle.fork_tree.proofs.Apart.{at_place, head-id, line-at, line-first, places_apart, some_block}
 
 -- ---- lists
-
-pub all-weaker : {X : Type 0} {P Q : X → Type 0} → ((x : X) → P x → Q x) → (xs : List X) → AllByRecursion P xs → AllByRecursion Q xs
-all-weaker weaker [] all = all
-all-weaker weaker (x ∷ xs) all = (weaker x all.0, all-weaker weaker xs all.1)
 
 pub all-among : (P : List ℕ → Type 0) (xs : List (List ℕ)) (q : List ℕ) → AllByRecursion P xs → is_among q xs ≡ true → P q
 all-among P [] q all e = absurd (false≢true e)
@@ -54,29 +51,6 @@ same-place blocks q n m e f = one (sym e ∙ f)
     one : Some n ≡ Some m → n ≡ m
     one e = cc
 
-pub cut-start : (blocks : List Block) (start reach : ℕ) → IsCut blocks start start reach
-cut-start blocks start reach = record { beyond = []; parts = sym (append-nil (way blocks start)); later = tt }
-
-pub cut-less : (blocks : List Block) (start at reach place : ℕ) → place ≤ reach → IsCut blocks start at reach → IsCut blocks start at place
-cut-less blocks start at reach place less cut = record {
-  beyond = cut.beyond;
-  parts = cut.parts;
-  later = all-weaker (λ q s. record { place = s.place; is = s.is; holds = from_parts s.place s.holds }) cut.beyond cut.later;
-}
-  where
-    from_parts : (p : ℕ) → reach < p → place < p
-    from_parts p h = omega (arith, less, h)
-
-module _ (blocks : List Block) (tree : IsTree (tree_of blocks)) where
-  pub cut-step : (start at prev place : ℕ) → at < length blocks → place < at → id_at blocks prev ≡ prev_at blocks at → IsCut blocks start at place → IsCut blocks start prev place
-  cut-step start at prev place within behind is cut = record {
-    beyond = id_at blocks at ∷ cut.beyond;
-    parts = cut.parts
-        ∙ ap (λ ids. ids ++ cut.beyond) (line-at blocks tree at within (omega (arith, behind)) ∙ ap (λ q. line (tree_of blocks) q ++ id_at blocks at ∷ []) (sym is))
-        ∙ append_assoc (way blocks prev) (id_at blocks at ∷ []) cut.beyond;
-    later = (record { place = at; is = places_apart blocks tree at within; holds = behind }, cut.later);
-  }
-
 module _ (blocks : List Block) (entries : List (Digest × ℕ)) (kept : IsKept blocks entries) where
   -- no block of the way stands behind the one to which it leads
   low : (most at : ℕ) → at ≤ most → at < length blocks → AllByRecursion (Stands blocks (λ p. p ≤ at)) (way blocks at)
@@ -86,12 +60,12 @@ module _ (blocks : List Block) (entries : List (Digest × ℕ)) (kept : IsKept b
   low (suc most) (suc at) few within =
       let x : Block = get_or blocks (suc at) some_block in
       let behind : 0 < suc at = omega arith in
-      let earlier : x.before < suc at = linked-before blocks (length blocks) kept.linked (suc at) some_block within within behind in
-      let rest : AllByRecursion (Stands blocks (λ p. p ≤ x.before)) (way blocks x.before) = low most x.before (omega (arith, earlier, few)) (omega (arith, earlier, within)) in
-      let is : id_at blocks x.before ≡ prev_at blocks (suc at) = linked-prev blocks (length blocks) kept.linked (suc at) some_block within within behind in
+      let earlier : x.links.before < suc at = (links-at blocks (length blocks) kept.linked (suc at) some_block within within).earlier behind in
+      let rest : AllByRecursion (Stands blocks (λ p. p ≤ x.links.before)) (way blocks x.links.before) = low most x.links.before (omega (arith, earlier, few)) (omega (arith, earlier, within)) in
+      let is : id_at blocks x.links.before ≡ prev_at blocks (suc at) = (links-at blocks (length blocks) kept.linked (suc at) some_block within within).prev behind in
       subst (AllByRecursion (Stands blocks (λ p. p ≤ suc at))) (sym (line-at blocks kept.tree (suc at) within behind ∙ ap (λ q. line (tree_of blocks) q ++ id_at blocks (suc at) ∷ []) (sym is)))
-      (AllByRecursion-append (Stands blocks (λ p. p ≤ suc at)) (way blocks x.before) (id_at blocks (suc at) ∷ [])
-      (all-weaker (λ q s. record { place = s.place; is = s.is; holds = from_parts x.before s.place earlier s.holds }) (way blocks x.before) rest)
+      (AllByRecursion-append (Stands blocks (λ p. p ≤ suc at)) (way blocks x.links.before) (id_at blocks (suc at) ∷ [])
+      (all-weaker (λ q s. record { place = s.place; is = s.is; holds = from_parts x.links.before s.place earlier s.holds }) (way blocks x.links.before) rest)
       (record { place = suc at; is = places_apart blocks kept.tree (suc at) within; holds = omega arith }, tt))
     where
       from_parts : (n p : ℕ) → n < suc at → p ≤ n → p ≤ suc at
@@ -104,9 +78,9 @@ module _ (blocks : List Block) (entries : List (Digest × ℕ)) (kept : IsKept b
   behind_head (suc most) (suc at) few within =
       let x : Block = get_or blocks (suc at) some_block in
       let behind : 0 < suc at = omega arith in
-      let earlier : x.before < suc at = linked-before blocks (length blocks) kept.linked (suc at) some_block within within behind in
-      let rest : IsCut blocks x.before 0 0 = behind_head most x.before (omega (arith, earlier, few)) (omega (arith, earlier, within)) in
-      let is : id_at blocks x.before ≡ prev_at blocks (suc at) = linked-prev blocks (length blocks) kept.linked (suc at) some_block within within behind in
+      let earlier : x.links.before < suc at = (links-at blocks (length blocks) kept.linked (suc at) some_block within within).earlier behind in
+      let rest : IsCut blocks x.links.before 0 0 = behind_head most x.links.before (omega (arith, earlier, few)) (omega (arith, earlier, within)) in
+      let is : id_at blocks x.links.before ≡ prev_at blocks (suc at) = (links-at blocks (length blocks) kept.linked (suc at) some_block within within).prev behind in
       record {
         beyond = rest.beyond ++ id_at blocks (suc at) ∷ [];
         parts = line-at blocks kept.tree (suc at) within behind ∙ ap (λ q. line (tree_of blocks) q ++ id_at blocks (suc at) ∷ []) (sym is)

@@ -1,14 +1,15 @@
 -- How the tree of live blocks is kept: the blocks in the order of acceptance, and a table with the place of each by its id.
-use Rattle.std.specs.Prelude.{◌≡◌, ◌≤◌, ◌<◌, ℕ, ◌+◌, List, [], ◌∷◌, length, map, Option, None, Some, unwrap_or, slice_index_or, if◌then◌else◌, refl}
+use Rattle.std.specs.Prelude.{◌≡◌, ◌≤◌, ◌<◌, ℕ, ◌+◌, ◌-◌, List, [], ◌∷◌, ◌++◌, length, map, Option, None, Some, unwrap_or, slice_index_or, if◌then◌else◌, refl}
 use Rattle.std.specs.Option.{option_map}
-use Rattle.std.specs.List.{slice_get}
+use Rattle.std.specs.List.{AllByRecursion, slice_get}
 use Rattle.std.specs.Map.{lookup}
 use Rattle.std.specs.Str.{bytes_eq}
 use Rattle.std.specs.Coded.{Coded, code_by, coded×, coded_ℕ, coded_list}
 use Rattle.base_core.specs.declared.hash.Digest.{Digest}
-use Rattle.fork_model.specs.Trees.{Header, BlockTree, IsTree, ids_of, is_among}
+use Rattle.fork_model.specs.Trees.{Header, BlockTree, IsTree, ids_of, is_among, line}
 use Rattle.fork_model.specs.Laws.{first_id}
 use Rattle.fork_tree.specs.declared.block.Block.{Block}
+use Rattle.fork_tree.specs.declared.links.Links.{Links}
 
 -- The tree, how many blocks may be live at most, and for how many further ones there is room.
 pub record ForkTree : Type 0 where
@@ -62,14 +63,32 @@ id_at blocks place = slice_index_or (ids_of (headers blocks)) place []
 abbrev pub prev_at : List Block → ℕ → List ℕ
 prev_at blocks place = slice_index_or (map (λ block. block.prev) (headers blocks)) place []
 
--- a block behind the head has the place of its prev, which stands before it
-pub record IsLinked (blocks : List Block) (place : ℕ) (block : Block) : Type 0 where
-  pub earlier : 0 < place → block.before < place
-  pub prev : 0 < place → id_at blocks block.before ≡ block.prev.0
+-- the blocks from the head to the one at a place
+abbrev pub way : List Block → ℕ → List (List ℕ)
+way blocks place = line (tree_of blocks) (id_at blocks place)
 
--- and so has each of the first blocks
+-- a block stands at a place of which something holds
+pub record Stands (blocks : List Block) (P : ℕ → Type 0) (q : List ℕ) : Type 0 where
+  pub place : ℕ
+  pub is : place_of (headers blocks) q ≡ Some place
+  pub holds : P place
+
+-- the blocks of a way that are gone all stand behind a place
+pub record IsCut (blocks : List Block) (start at reach : ℕ) : Type 0 where
+  pub beyond : List (List ℕ)
+  pub parts : way blocks start ≡ way blocks at ++ beyond
+  pub later : AllByRecursion (Stands blocks (λ p. reach < p)) beyond
+
+-- The links of the block at a place. Behind the head the place of its prev is kept, which stands before it, and a jump goes back on the way, over blocks that all stand behind the one to which it leads.
+pub record IsLinked (blocks : List Block) (place : ℕ) (links : Links) : Type 0 where
+  pub earlier : 0 < place → links.before < place
+  pub prev : 0 < place → id_at blocks links.before ≡ prev_at blocks place
+  pub back : links.jump ≤ place - 1
+  pub cut : IsCut blocks place links.jump links.jump
+
+-- each of the first blocks has its links
 abbrev pub AreLinked : List Block → (count : ℕ) → Type 0
-AreLinked blocks count = (place : ℕ) (block : Block) → place < count → slice_get blocks place ≡ Some block → IsLinked blocks place block
+AreLinked blocks count = (place : ℕ) (block : Block) → place < count → slice_get blocks place ≡ Some block → IsLinked blocks place block.links
 
 pub record IsKept (blocks : List Block) (entries : List (Digest × ℕ)) : Type 0 where
   pub tree : IsTree (tree_of blocks)

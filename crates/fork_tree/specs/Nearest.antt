@@ -2,7 +2,7 @@
 use Rattle.std.specs.Prelude.{◌≡◌, ℕ, ◌≤◌, ◌<◌, true, false, List, ◌++◌, length, Some, ◌⊎◌}
 use Rattle.std.specs.List.{AllByRecursion}
 use Rattle.fork_model.specs.Trees.{BlockTree, is_among, is_live, line}
-use Rattle.fork_tree.specs.Kept.{headers, id_at, place_of, tree_of}
+use Rattle.fork_tree.specs.Kept.{IsCut, headers, id_at, place_of, way}
 use Rattle.fork_tree.specs.declared.block.Block.{Block}
 use Rattle.fork_tree.specs.declared.nearest.Search.{Search}
 
@@ -15,22 +15,6 @@ pub record IsNearest (tree : BlockTree) (ids : List (List ℕ)) (id nearest : Li
   pub live : is_live tree nearest ≡ true
 
 -- ---- the search, as it is carried out
-
--- the blocks from the head to the one at a place
-abbrev pub way : List Block → ℕ → List (List ℕ)
-way blocks place = line (tree_of blocks) (id_at blocks place)
-
--- a block stands at a place of which something holds
-pub record Stands (blocks : List Block) (P : ℕ → Type 0) (q : List ℕ) : Type 0 where
-  pub place : ℕ
-  pub is : place_of (headers blocks) q ≡ Some place
-  pub holds : P place
-
--- the blocks of a way that are gone all stand behind a place
-pub record IsCut (blocks : List Block) (start at reach : ℕ) : Type 0 where
-  pub beyond : List (List ℕ)
-  pub parts : way blocks start ≡ way blocks at ++ beyond
-  pub later : AllByRecursion (Stands blocks (λ p. reach < p)) beyond
 
 -- no block of those met that is on the way is nearer
 abbrev pub NotNearer : List Block → (start nearest : ℕ) → List ℕ → Type 0

@@ -1,3 +1,4 @@
+use crate::links::Links;
 use base_core::Digest;
 
 /// A live block.
@@ -6,6 +7,5 @@ pub(crate) struct Block {
     pub(crate) id: Digest,
     pub(crate) prev: Digest,
     pub(crate) height: u64,
-    /// The place of its prev, and 0 for the head.
-    pub(crate) before: usize,
+    pub(crate) links: Links,
 }

@@ -1,10 +1,10 @@
-ghost use Rattle.std.specs.Prelude.{◌≡◌, ◌≤◌, ◌<◌, ℕ, List, None, Some, length, map, EachIndex, vec_capacity, vec_len, is_some, if◌then◌else◌, ◌&&◌};
+ghost use Rattle.std.specs.Prelude.{◌≡◌, ◌≤◌, ℕ, List, None, Some, map, EachIndex, vec_capacity, vec_len, is_some, if◌then◌else◌, ◌&&◌};
 ghost use Rattle.std.specs.Option.{option_or};
 ghost use Rattle.std.specs.Str.{bytes_eq};
 ghost use Rattle.std.specs.List.{filter};
 ghost use Rattle.std.specs.HashMap.{spare};
-ghost use Rattle.fork_model.specs.Trees.{IsTree, is_among};
-ghost use Rattle.fork_tree.specs.Kept.{AreLinked, IsPlaced, headers, id_at, left, place_of, placed, prev_at, tree_of};
+ghost use Rattle.fork_model.specs.Trees.{is_among};
+ghost use Rattle.fork_tree.specs.Kept.{headers, id_at, left, place_of, placed};
 
 use crate::block::Block;
 use base_core::Digest;
@@ -62,37 +62,5 @@ fn put_place(places: &mut HashMap<Digest, usize>, id: &Digest, place: usize)
 {
     if let Some(held) = places.get_mut(id) {
         *held = place;
-    }
-}
-
-/// Writes into each block the place of its prev, as the table has it.
-pub(crate) fn link_all(blocks: &mut Vec<Block>, places: &HashMap<Digest, usize>)
-    requires tree { IsTree (tree_of blocks.old.items) }
-    requires placed { IsPlaced blocks.old.items places.now.entries }
-    ensures headers { headers blocks.new.items ≡ headers blocks.old.items }
-    ensures linked { AreLinked blocks.new.items (length blocks.new.items) }
-    ensures capacity { vec_capacity blocks.new ≡ vec_capacity blocks.old }
-{
-    for place in 0..blocks.len() {
-        let before = seek_before(blocks, places, place);
-        blocks[place].before = before;
-    }
-}
-
-/// The place of the block on which one stands, and 0 for the head.
-fn seek_before(blocks: &[Block], places: &HashMap<Digest, usize>, place: usize) -> usize
-    requires tree { IsTree (tree_of blocks.now) }
-    requires placed { IsPlaced blocks.now places.now.entries }
-    requires within { place < length blocks.now }
-    ensures earlier { 0 < place → result < place }
-    ensures prev { 0 < place → id_at blocks.now result ≡ prev_at blocks.now place }
-{
-    if place == 0 {
-        return 0;
-    }
-    match places.get(&blocks[place].prev) {
-        Some(before) => *before,
-        // The prev is live.
-        None => unreachable!(),
     }
 }

@@ -5,9 +5,10 @@ ghost use Rattle.fork_tree.specs.Answers.{IsPlan, checked};
 ghost use Rattle.fork_tree.specs.Nearest.{IsNearest};
 
 use crate::block::Block;
-use crate::commits::{forget_all, keep_placed, link_all, put_places};
+use crate::commits::{forget_all, keep_placed, put_places};
 use crate::errors::{ForkError, MoveError};
 use crate::ids::{Ids, Move};
+use crate::links::{Links, link_all, links_over};
 use crate::nearest::nearest_to;
 use crate::plans::{dropped_by, line_to};
 use base_core::Digest;
@@ -55,7 +56,11 @@ impl Forks {
             id: Digest::ZERO,
             prev: Digest::ZERO,
             height: 0,
-            before: 0,
+            links: Links {
+                before: 0,
+                jump: 0,
+                depth: 0,
+            },
         };
         let mut live = Vec::new(alloc);
         live.push(head)?;
@@ -108,12 +113,12 @@ impl Forks {
             // The prev is live.
             unreachable!()
         };
-        let before = *before;
+        let links = links_over(&self.live, *before);
         match self.live.push(Block {
             id,
             prev,
             height,
-            before,
+            links,
         }) {
             Ok(()) => {}
             // There is room.
@@ -156,8 +161,8 @@ impl Forks {
     }
 
     /// The nearest of some blocks on the way from a live block to the head, that block among them,
-    /// and the head where none of them is on the way. It takes no memory, and time by the ids and
-    /// the blocks on the way, if the ids stand in the order in which the blocks were added.
+    /// and the head where none of them is on the way. It takes no memory, and for each id a time by
+    /// the logarithm of the blocks on the way.
     pub fn nearest(&self, id: &Digest, ids: &[Digest]) -> Digest
         requires { is_live self.now.tree id.now.0 ≡ true }
         ensures { IsNearest self.now.tree (map (λ id. id.0) ids.now) id.now.0 result.0 }
@@ -212,7 +217,7 @@ impl Forks {
         };
         // What does not stay is taken from the table, and then from the list. What stays closes up
         // in its order, and each place is written over the former one, in the table and then in the
-        // blocks that stand on it, so no memory is taken.
+        // links of blocks, so no memory is taken.
         forget_all(&mut self.places, &head, before, m.dropped.as_slice());
         keep_placed(&mut self.live, &self.places);
         put_places(&mut self.places, &self.live);

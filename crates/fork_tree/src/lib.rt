@@ -7,6 +7,7 @@ mod commits;
 mod errors;
 mod forks;
 mod ids;
+mod links;
 mod nearest;
 mod plans;
 

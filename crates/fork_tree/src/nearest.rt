@@ -1,10 +1,9 @@
 ghost use Rattle.std.specs.Prelude.{◌≡◌, ◌≤◌, ◌<◌, ◌∷◌, ℕ, List, length, map};
 ghost use Rattle.fork_model.specs.Trees.{IsTree};
-ghost use Rattle.fork_tree.specs.Kept.{AreLinked, IsKept, id_at, tree_of};
-ghost use Rattle.fork_tree.specs.Nearest.{IsCut, IsNearest, IsSearch};
+ghost use Rattle.fork_tree.specs.Kept.{AreLinked, IsCut, IsKept, id_at, tree_of};
+ghost use Rattle.fork_tree.specs.Nearest.{IsNearest, IsSearch};
 
 use crate::block::Block;
-use crate::plans::place_before;
 use base_core::Digest;
 use std::collections::HashMap;
 
@@ -108,7 +107,25 @@ fn way_back(blocks: &[Block], from: usize, place: usize) -> usize
 {
     let mut at = from;
     while at > place {
-        at = place_before(blocks, at);
+        at = step_back(blocks, at, place);
     }
     at
+}
+
+/// One step back on the way: over the jump of a block, if that does not pass the other place, and
+/// else to its prev.
+fn step_back(blocks: &[Block], at: usize, place: usize) -> usize
+    requires tree { IsTree (tree_of blocks.now) }
+    requires linked { AreLinked blocks.now (length blocks.now) }
+    requires within { at < length blocks.now }
+    requires behind { place < at }
+    ensures earlier { result < at }
+    ensures cut { (start : ℕ) → IsCut blocks.now start at place → IsCut blocks.now start result place }
+{
+    let links = blocks[at].links;
+    if links.jump >= place {
+        links.jump
+    } else {
+        links.before
+    }
 }

@@ -37,7 +37,7 @@ pub(crate) fn place_before(blocks: &[Block], place: usize) -> usize
     ensures earlier { result < place }
     ensures prev { id_at blocks.now result ≡ prev_at blocks.now place }
 {
-    blocks[place].before
+    blocks[place].links.before
 }
 
 /// The live blocks that are neither on the line to a block nor descend from it, in their order.

@@ -1,5 +1,6 @@
 use Rattle.std.proofs.Common.{◌≡◌, ◌<◌, ◌∷◌, sym, subst, arith}
-use Rattle.fork_tree.specs.Nearest.{IsCut, IsSearch}
+use Rattle.fork_tree.specs.Kept.{IsCut}
+use Rattle.fork_tree.specs.Nearest.{IsSearch}
 use Rattle.fork_tree.proofs.Kept.{placed-within}
 use Rattle.fork_tree.proofs.Planned.{place-id}
 use Rattle.fork_tree.proofs.Searching.{search-found, search-missed}

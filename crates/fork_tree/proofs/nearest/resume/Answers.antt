@@ -1,5 +1,5 @@
 use Rattle.std.proofs.Common.{arith}
-use Rattle.fork_tree.proofs.Searching.{cut-less, cut-start}
+use Rattle.fork_tree.proofs.Cuts.{cut-less, cut-start}
 use Rattle.fork_tree.proofs.nearest.resume.Goals as goal
 
 pub returns-then-place-search-clause-cut : goal.returns-then-place-search-clause-cut

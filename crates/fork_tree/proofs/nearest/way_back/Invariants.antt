@@ -1,5 +1,5 @@
 use Rattle.std.proofs.Common.{ℕ, ◌<◌, length}
-use Rattle.fork_tree.specs.Nearest.{IsCut}
+use Rattle.fork_tree.specs.Kept.{IsCut}
 use Rattle.fork_tree.proofs.nearest.way_back.Given as goal
 
 abbrev pub invariant-loop-at : goal.invariant-loop-at

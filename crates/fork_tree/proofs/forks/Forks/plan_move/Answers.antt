@@ -1,7 +1,7 @@
-use Rattle.std.proofs.Common.{map, drop, is_some, refl, sym, ◌∙◌, ap, arith}
+use Rattle.std.proofs.Common.{length, map, drop, is_some, refl, sym, ◌∙◌, ap, subst, arith}
 use Rattle.base_core.specs.declared.hash.Digest.{Digest}
 use Rattle.fork_model.specs.Trees.{dropped, is_live, line}
-use Rattle.fork_tree.specs.Kept.{id_at, tree_of}
+use Rattle.fork_tree.specs.Kept.{AreLinked, id_at, tree_of}
 use Rattle.fork_tree.proofs.Planned.{answered, line_some, plan-is, place-id, passed_on, removed-first}
 use Rattle.fork_tree.proofs.Kept.{placed-live, placed-within}
 use Rattle.fork_tree.proofs.forks.Forks.plan_move.Goals as goal
@@ -17,10 +17,16 @@ line_to-requires-clause-within c =
     let l = c.self.inside.live.ok.0 in
     omega (arith, w, l, c.deref.ensures.len)
 
+pub line_to-requires-clause-linked : goal.line_to-requires-clause-linked
+line_to-requires-clause-linked c = subst (λ blocks. AreLinked blocks (length blocks)) (sym c.deref.ensures.value) c.self.invariant.kept.linked
+
 pub returns-in_err-line-clause-not_live : goal.returns-in_err-line-clause-not_live
 returns-in_err-line-clause-not_live c =
     let live = ap (λ s. is_live s.tree c.args.id.now.0) (sym c.self.view_is) ∙ sym (placed-live _ _ c.self.invariant.kept c.args.id.now.0) ∙ ap is_some (sym c.in-Some.ensures.value) in
     passed_on _ _ c.from_residual.ensures.1 live
+
+pub dropped_by-requires-clause-linked : goal.dropped_by-requires-clause-linked
+dropped_by-requires-clause-linked c = subst (λ blocks. AreLinked blocks (length blocks)) (sym c.deref-2.ensures.value) c.self.invariant.kept.linked
 
 pub dropped_by-requires-clause-live : goal.dropped_by-requires-clause-live
 dropped_by-requires-clause-live c =
