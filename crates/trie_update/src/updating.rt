@@ -1,4 +1,4 @@
-ghost use Rattle.std.specs.Prelude.{◌≡◌, ◌+◌, ◌≤◌, ◌<◌, ℕ, false, ◌∷◌, ◌++◌, [], length, take, drop, option_map, slice_index_or, Some, IfSome, OnOk, IfOk, IfErr};
+ghost use Rattle.std.specs.Prelude.{◌≡◌, ◌+◌, ◌≤◌, ◌<◌, ℕ, false, ◌∷◌, ◌++◌, [], length, take, drop, option_copied, option_map, slice_index_or, Some, IfSome, OnOk, IfOk, IfErr};
 ghost use Rattle.byte_model.specs.Nibbles.{nibbles};
 ghost use Rattle.byte_model.specs.Node.{longest_value};
 ghost use Rattle.byte_model.specs.PackedPath.{longest_path};
@@ -159,7 +159,7 @@ pub(crate) fn at_path<T: Texts>(
     let below = depth + shared as u64;
     match led_to(old, shared) {
         Some(child) => {
-            let placed = at_digest(alloc, store, ledger, &child, changes, below, true)?;
+            let placed = at_digest(alloc, store, ledger, child, changes, below, true)?;
             lower(alloc, placed, changes, depth, shared)
         }
         None => {
@@ -171,13 +171,13 @@ pub(crate) fn at_path<T: Texts>(
 
 /// The branch that is reached after so many nibbles, if one is.
 #[inline(always)]
-fn led_to(old: &Old<'_>, count: usize) -> Option<Digest>
-    ensures { result ≡ led_by count old.now }
+fn led_to<'o>(old: &'o Old<'_>, count: usize) -> Option<&'o Digest>
+    ensures { option_copied result ≡ led_by count old.now }
 {
     match old {
         Old::Extension { path, child, .. } => {
             if path.len() == count {
-                Some(*child)
+                Some(child)
             } else {
                 None
             }

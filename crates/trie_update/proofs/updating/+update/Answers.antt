@@ -634,10 +634,10 @@ at_path-returns-in_err-placed-in-Some-clause-carries g t c =
     let stood = c.args.old.now in
     let d = some-lent changes c.requires.some in
     let visits = path-visits table c.args.depth count changes d stood c.requires.some shared.ensures.deeper shared.ensures.keys shared.ensures.begin in
-    let led = led-some table below count stood c.in-Some.child c.in-Some.ensures in
+    let led = led-some table below count stood c.in-Some.child.now c.in-Some.ensures in
     let more = changes-some below changes c.requires.some in
     let cs = changes_at below changes in
-    let led_is = led-visits table below count stood c.in-Some.child led cs more in
+    let led_is = led-visits table below count stood c.in-Some.child.now led cs more in
     let new = c.at_digest.new.store in
     let whole = top_visits (seen_past table c.args.depth 0 stood) (old_past 0 stood) (changes_at c.args.depth changes) in
     carries-passed store {X = Placed} {Y = Placed} old new whole c.in_err-placed-in-Some.field-0.0 c.from_residual.result c.from_residual.ensures.1
@@ -686,10 +686,10 @@ at_path-returns-in_ok-placed-in-Some-clause-carries g t c =
     let stood = c.args.old.now in
     let d = some-lent changes c.requires.some in
     let visits = path-visits table c.args.depth count changes d stood c.requires.some shared.ensures.deeper shared.ensures.keys shared.ensures.begin in
-    let led = led-some table below count stood c.in-Some.child c.in-Some.ensures in
+    let led = led-some table below count stood c.in-Some.child.now c.in-Some.ensures in
     let more = changes-some below changes c.requires.some in
     let cs = changes_at below changes in
-    let led_is = led-visits table below count stood c.in-Some.child led cs more in
+    let led_is = led-visits table below count stood c.in-Some.child.now led cs more in
     let new = c.at_digest.new.store in
     let whole = top_visits (seen_past table c.args.depth 0 stood) (old_past 0 stood) (changes_at c.args.depth changes) in
     carries-end store {X = Placed} {Y = Placed} old new whole c.in_ok-placed-in-Some.placed c.lower.result c.lower.ensures.error
@@ -706,12 +706,12 @@ at_path-returns-in_ok-placed-in-Some-clause-placed g t c =
     let changes = c.args.changes.now in
     let stood = c.args.old.now in
     let d = some-lent changes c.requires.some in
-    let led = led-some table below count stood c.in-Some.child c.in-Some.ensures in
+    let led = led-some table below count stood c.in-Some.child.now c.in-Some.ensures in
     let more = changes-some below changes c.requires.some in
-    let there = seen_at table below true c.in-Some.child.0 in
+    let there = seen_at table below true c.in-Some.child.now.0 in
     let cs = changes_at below changes in
     if_ok-both c.lower.result _ _ _ (λ lower top stated. path-placed table c.args.depth count changes d stood c.requires.some shared.ensures.deeper shared.ensures.keys shared.ensures.begin (updated there cs) (stated_usage there) (length changes) c.args.ledger.now c.at_digest.new.ledger c.in_ok-placed-in-Some.placed lower
-    (led-outcome table below count stood c.in-Some.child led cs more) (led-stated table below count stood c.in-Some.child led cs more) c.in_ok-placed-in-Some.ensures.placed (top d) stated) c.lower.ensures.top c.lower.ensures.stated
+    (led-outcome table below count stood c.in-Some.child.now led cs more) (led-stated table below count stood c.in-Some.child.now led cs more) c.in_ok-placed-in-Some.ensures.placed (top d) stated) c.lower.ensures.top c.lower.ensures.stated
 
 pub at_path-returns-in_ok-placed-in-Some-clause-keeps : goal.at_path-returns-in_ok-placed-in-Some-clause-keeps
 at_path-returns-in_ok-placed-in-Some-clause-keeps g t c =
@@ -724,10 +724,10 @@ at_path-returns-in_ok-placed-in-Some-clause-keeps g t c =
     let changes = c.args.changes.now in
     let stood = c.args.old.now in
     let d = some-lent changes c.requires.some in
-    let led = led-some table below count stood c.in-Some.child c.in-Some.ensures in
+    let led = led-some table below count stood c.in-Some.child.now c.in-Some.ensures in
     let more = changes-some below changes c.requires.some in
     let cs = changes_at below changes in
-    let keeps = path-keeps table c.args.depth count changes d stood c.requires.some shared.ensures.deeper shared.ensures.keys shared.ensures.begin (led-keeps table below count stood c.in-Some.child led cs more c.in_ok-placed-in-Some.ensures.keeps) in
+    let keeps = path-keeps table c.args.depth count changes d stood c.requires.some shared.ensures.deeper shared.ensures.keys shared.ensures.begin (led-keeps table below count stood c.in-Some.child.now led cs more c.in_ok-placed-in-Some.ensures.keeps) in
     IfOk-weaker c.lower.result _ (λ _. TopKeeps c.args.depth (seen_past table c.args.depth 0 stood) (old_past 0 stood) (changes_at c.args.depth changes)) (λ lower e. keeps) c.lower.ensures.stated
 
 pub at_path-returns-in_ok-placed-in-None-clause-carries : goal.at_path-returns-in_ok-placed-in-None-clause-carries
