@@ -407,13 +407,14 @@ fn at_nibble<T: Texts>(
         return Ok((unchanged(alloc, parent, nibble)?, 0));
     }
     let below = depth + 1;
-    match parent.behind(nibble) {
+    let former = parent.behind(nibble);
+    match &former {
         Former::Known(old) => {
-            let placed = at_path(alloc, store, ledger, &old, changes, below)?;
+            let placed = at_path(alloc, store, ledger, old, changes, below)?;
             child_placed(alloc, placed)
         }
         Former::Named(digest) => {
-            let placed = at_digest(alloc, store, ledger, &digest, changes, below, false)?;
+            let placed = at_digest(alloc, store, ledger, digest, changes, below, false)?;
             child_placed(alloc, placed)
         }
     }

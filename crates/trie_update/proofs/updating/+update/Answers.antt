@@ -7,7 +7,7 @@ use Rattle.trie_update.specs.declared.joining.Left.{Left}
 use Rattle.trie_update.specs.declared.joining.Child.{Child}
 use Rattle.trie_update.specs.declared.errors.UpdateError.TheVariants.{NoMemory, Usage}
 use Rattle.trie_update.specs.ChangesAt.{changes_at}
-use Rattle.trie_update.specs.Places.{place_behind, place_visits, old_past, seen_past, top_visits, top_stated, TopKeeps}
+use Rattle.trie_update.specs.Places.{FitsFormer, place_behind, place_visits, old_past, seen_past, top_visits, top_stated, TopKeeps}
 use Rattle.trie_update.specs.Placed.{run_at, branch_inside}
 use Rattle.trie_update.proofs.Carrying.{carries-passed, opens-changed, visit-stopped, carries-none, carries-ok, carries-stopped, carries-then, carries-less, carries-closed, carries-end, carries-late}
 use Rattle.trie_update.proofs.Turning.{IsGathered, run-short, end-carries, end-parted, gathered-none, turn-changes, turn-fewer, turn-more, turn-room, turn-short, turn-stopped}
@@ -440,62 +440,62 @@ at_nibble-returns-then-is_empty-clause-child g t c =
 
 pub at_nibble-at_path-requires : goal.at_nibble-at_path-requires
 at_nibble-at_path-requires g t c =
-    let fits = c.in-Known.ensures.fits (g.T.Texts.store.texts c.args.store.now) c.args.depth c.requires.parent in
+    let fits = subst (FitsFormer (c.args.depth + 1)) c.in-Known.is (c.behind-former.ensures.fits (g.T.Texts.store.texts c.args.store.now) c.args.depth c.requires.parent) in
     λ κs h. (search rules, (h, (c.requires.changes, (some-changes c.args.changes.now c.if-is_empty.ensures, (c.requires.few, (c.requires.room, (c.requires.named, fits)))))))
 
 pub at_nibble-returns-in_err-placed-in-Known-clause-carries : goal.at_nibble-returns-in_err-placed-in-Known-clause-carries
 at_nibble-returns-in_err-placed-in-Known-clause-carries g t c =
     let store = g.T.Texts.store in
-    let place = c.behind.ensures.place (store.texts c.args.store.now) c.args.depth c.requires.parent in
+    let place = c.behind-former.ensures.place (store.texts c.args.store.now) c.args.depth c.requires.parent in
     let some = some-changes c.args.changes.now c.if-is_empty.ensures in
-    let touched = known-touched _ (c.args.depth + 1) c.behind.result _ place c.args.changes.now some c.in-Known.old c.in-Known.is in
+    let touched = known-touched _ (c.args.depth + 1) c.behind-former.result _ place c.args.changes.now some c.in-Known.old c.in-Known.is in
     carries-placed (c.args.depth + 1) _ _ _ _ _ _ touched (length-changes_at (c.args.depth + 1) c.args.changes.now) store c.args.store.now c.at_path.new.store c.from_residual-in_err-placed-in-Known.result
     (carries-passed store {X = Placed} {Y = Child × ℕ} c.args.store.now c.at_path.new.store _ c.in_err-placed-in-Known.field-0.0 c.from_residual-in_err-placed-in-Known.result c.from_residual-in_err-placed-in-Known.ensures.1 c.in_err-placed-in-Known.ensures.carries)
 
 pub at_nibble-returns-in_err-placed-in-Named-clause-carries : goal.at_nibble-returns-in_err-placed-in-Named-clause-carries
 at_nibble-returns-in_err-placed-in-Named-clause-carries g t c =
     let store = g.T.Texts.store in
-    let place = c.behind.ensures.place (store.texts c.args.store.now) c.args.depth c.requires.parent in
+    let place = c.behind-former.ensures.place (store.texts c.args.store.now) c.args.depth c.requires.parent in
     let some = some-changes c.args.changes.now c.if-is_empty.ensures in
-    let touched = named-touched _ (c.args.depth + 1) c.behind.result _ place c.args.changes.now some c.in-Named.digest c.in-Named.is in
+    let touched = named-touched _ (c.args.depth + 1) c.behind-former.result _ place c.args.changes.now some c.in-Named.digest c.in-Named.is in
     carries-placed (c.args.depth + 1) _ _ _ _ _ _ touched (length-changes_at (c.args.depth + 1) c.args.changes.now) store c.args.store.now c.at_digest.new.store c.from_residual-in_err-placed-in-Named.result
     (carries-passed store {X = Placed} {Y = Child × ℕ} c.args.store.now c.at_digest.new.store _ c.in_err-placed-in-Named.field-0.0 c.from_residual-in_err-placed-in-Named.result c.from_residual-in_err-placed-in-Named.ensures.1 c.in_err-placed-in-Named.ensures.carries)
 
 pub at_nibble-returns-in_ok-placed-in-Known-clause-carries : goal.at_nibble-returns-in_ok-placed-in-Known-clause-carries
 at_nibble-returns-in_ok-placed-in-Known-clause-carries g t c =
     let store = g.T.Texts.store in
-    let place = c.behind.ensures.place (store.texts c.args.store.now) c.args.depth c.requires.parent in
+    let place = c.behind-former.ensures.place (store.texts c.args.store.now) c.args.depth c.requires.parent in
     let some = some-changes c.args.changes.now c.if-is_empty.ensures in
-    let touched = known-touched _ (c.args.depth + 1) c.behind.result _ place c.args.changes.now some c.in-Known.old c.in-Known.is in
+    let touched = known-touched _ (c.args.depth + 1) c.behind-former.result _ place c.args.changes.now some c.in-Known.old c.in-Known.is in
     carries-placed (c.args.depth + 1) _ _ _ _ _ _ touched (length-changes_at (c.args.depth + 1) c.args.changes.now) {X = Child × ℕ} store c.args.store.now c.at_path.new.store c.child_placed.result
     (carries-end store {X = Placed} {Y = Child × ℕ} c.args.store.now c.at_path.new.store _ c.in_ok-placed-in-Known.placed c.child_placed.result c.child_placed.ensures.error c.in_ok-placed-in-Known.ensures.carries)
 
 pub at_nibble-returns-in_ok-placed-in-Known-clause-child : goal.at_nibble-returns-in_ok-placed-in-Known-clause-child
 at_nibble-returns-in_ok-placed-in-Known-clause-child g t c =
     let store = g.T.Texts.store in
-    let place = c.behind.ensures.place (store.texts c.args.store.now) c.args.depth c.requires.parent in
+    let place = c.behind-former.ensures.place (store.texts c.args.store.now) c.args.depth c.requires.parent in
     let some = some-changes c.args.changes.now c.if-is_empty.ensures in
-    let touched = known-touched _ (c.args.depth + 1) c.behind.result _ place c.args.changes.now some c.in-Known.old c.in-Known.is in
+    let touched = known-touched _ (c.args.depth + 1) c.behind-former.result _ place c.args.changes.now some c.in-Known.old c.in-Known.is in
     IfOk-weaker c.child_placed.result _ _ (λ child is. child-placed (c.args.depth + 1) _ _ _ _ _ _ touched (length-changes_at (c.args.depth + 1) c.args.changes.now) c.args.ledger.now c.at_path.new.ledger c.in_ok-placed-in-Known.placed c.in_ok-placed-in-Known.ensures.placed
-    (known-keeps _ (c.args.depth + 1) c.behind.result _ place c.args.changes.now some c.in-Known.old c.in-Known.is c.in_ok-placed-in-Known.ensures.keeps) child is.0 is.1) c.child_placed.ensures.child
+    (known-keeps _ (c.args.depth + 1) c.behind-former.result _ place c.args.changes.now some c.in-Known.old c.in-Known.is c.in_ok-placed-in-Known.ensures.keeps) child is.0 is.1) c.child_placed.ensures.child
 
 pub at_nibble-returns-in_ok-placed-in-Named-clause-carries : goal.at_nibble-returns-in_ok-placed-in-Named-clause-carries
 at_nibble-returns-in_ok-placed-in-Named-clause-carries g t c =
     let store = g.T.Texts.store in
-    let place = c.behind.ensures.place (store.texts c.args.store.now) c.args.depth c.requires.parent in
+    let place = c.behind-former.ensures.place (store.texts c.args.store.now) c.args.depth c.requires.parent in
     let some = some-changes c.args.changes.now c.if-is_empty.ensures in
-    let touched = named-touched _ (c.args.depth + 1) c.behind.result _ place c.args.changes.now some c.in-Named.digest c.in-Named.is in
+    let touched = named-touched _ (c.args.depth + 1) c.behind-former.result _ place c.args.changes.now some c.in-Named.digest c.in-Named.is in
     carries-placed (c.args.depth + 1) _ _ _ _ _ _ touched (length-changes_at (c.args.depth + 1) c.args.changes.now) {X = Child × ℕ} store c.args.store.now c.at_digest.new.store c.child_placed-in-Named.result
     (carries-end store {X = Placed} {Y = Child × ℕ} c.args.store.now c.at_digest.new.store _ c.in_ok-placed-in-Named.placed c.child_placed-in-Named.result c.child_placed-in-Named.ensures.error c.in_ok-placed-in-Named.ensures.carries)
 
 pub at_nibble-returns-in_ok-placed-in-Named-clause-child : goal.at_nibble-returns-in_ok-placed-in-Named-clause-child
 at_nibble-returns-in_ok-placed-in-Named-clause-child g t c =
     let store = g.T.Texts.store in
-    let place = c.behind.ensures.place (store.texts c.args.store.now) c.args.depth c.requires.parent in
+    let place = c.behind-former.ensures.place (store.texts c.args.store.now) c.args.depth c.requires.parent in
     let some = some-changes c.args.changes.now c.if-is_empty.ensures in
-    let touched = named-touched _ (c.args.depth + 1) c.behind.result _ place c.args.changes.now some c.in-Named.digest c.in-Named.is in
+    let touched = named-touched _ (c.args.depth + 1) c.behind-former.result _ place c.args.changes.now some c.in-Named.digest c.in-Named.is in
     IfOk-weaker c.child_placed-in-Named.result _ _ (λ child is. child-placed (c.args.depth + 1) _ _ _ _ _ _ touched (length-changes_at (c.args.depth + 1) c.args.changes.now) c.args.ledger.now c.at_digest.new.ledger c.in_ok-placed-in-Named.placed c.in_ok-placed-in-Named.ensures.placed
-    (named-keeps _ (c.args.depth + 1) c.behind.result _ place c.args.changes.now some c.in-Named.digest c.in-Named.is c.in_ok-placed-in-Named.ensures.keeps) child is.0 is.1) c.child_placed-in-Named.ensures.child
+    (named-keeps _ (c.args.depth + 1) c.behind-former.result _ place c.args.changes.now some c.in-Named.digest c.in-Named.is c.in_ok-placed-in-Named.ensures.keeps) child is.0 is.1) c.child_placed-in-Named.ensures.child
 
 pub at_nibbles-run_length-requires-clause-rises : goal.at_nibbles-run_length-requires-clause-rises
 at_nibbles-run_length-requires-clause-rises g t c = c.loop-nibble.invariant.left.changes.rises
