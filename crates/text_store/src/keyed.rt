@@ -8,7 +8,7 @@ use std::alloc::{AllocError, Global};
 use std::collections::BTreeSet;
 use std::hash::{BuildHasher, FoldHasher, Hasher};
 
-/// What hashes the digests of a table. Its key is made of all of them, by SHA-256. So nobody can look
+/// What hashes the digests of a table. Its key is made of each of them, by SHA-256. So nobody can look
 /// for texts whose digests fall together there: each text changes where all fall.
 #[derive(Clone, Copy)]
 pub(crate) struct Keyed {
@@ -40,11 +40,15 @@ pub(crate) fn digests_of_set(
     Ok(digests)
 }
 
+/// How many bytes of a digest the key of its table binds. Two texts that agree in them are found by
+/// 2^64 tries.
+const KEYED_BYTES: usize = 16;
+
 /// The key of a table of these digests.
 pub(crate) fn key_of(digests: &[Digest]) -> Keyed {
     let mut sum = Sha256::new();
     for digest in digests {
-        sum.update(&digest.0);
+        sum.update(digest.0.split_at(KEYED_BYTES).0);
     }
     let mut start = FoldHasher::default();
     start.write(&sum.finalize());

@@ -8,7 +8,7 @@ ghost use Rattle.sha2.specs.Sha256.{sha256};
 ghost use Rattle.partial_model.specs.Texts.{lesser};
 ghost use Rattle.text_store.specs.PartialStates.{digest_taken, fresh_entry, has_digest};
 
-use crate::keyed::Keyed;
+use crate::keyed::{Keyed, key_of};
 use base_core::{Digest, Text};
 use indexmap::IndexMap;
 use std::alloc::{AllocError, Global};
@@ -18,6 +18,16 @@ use std::alloc::{AllocError, Global};
 pub(crate) struct Marked {
     pub(crate) text: Text,
     pub(crate) used: bool,
+}
+
+/// A table with room for the texts of these digests, by which it is keyed.
+pub(crate) fn room_for(
+    alloc: Global,
+    digests: &[Digest],
+) -> Result<IndexMap<Digest, Marked, Keyed>, AllocError>
+    ensures { IfOk result (λ held. held.entries ≡ []) }
+{
+    IndexMap::with_capacity_and_hasher(alloc, digests.len(), key_of(digests))
 }
 
 /// Puts a text last, under its digest. Where that is the zero one, or was taken, it is answered, and

@@ -11,8 +11,8 @@ ghost use Rattle.text_store.specs.PartialStates.{AnswersWhole, AnswersFirst, Ans
 ghost use Rattle.text_store.specs.contracts.partial_texts.PartialTexts.{the_row};
 
 use crate::errors::PartialError;
-use crate::keyed::{Keyed, digests_of, digests_of_set, key_of};
-use crate::marked::{Marked, first_unmarked, hold, least_of};
+use crate::keyed::{Keyed, digests_of, digests_of_set};
+use crate::marked::{Marked, first_unmarked, hold, least_of, room_for};
 use crate::partial_reading::{fall_among, read_texts};
 use crate::text_set::TextSet;
 use crate::texts::Texts;
@@ -73,7 +73,7 @@ impl PartialTexts {
     {
         let texts = set.into_texts();
         let digests = digests_of_set(alloc, &texts)?;
-        let mut held = IndexMap::with_hasher(alloc, key_of(digests.as_slice()));
+        let mut held = room_for(alloc, digests.as_slice())?;
         for bytes in texts {
             let digest = digests[held.len()];
             hold(&mut held, digest, Text::from_bytes(bytes))?;
@@ -118,7 +118,7 @@ impl PartialTexts {
             return Err(PartialError::Order { place });
         }
         let digests = digests_of(alloc, texts)?;
-        let mut held = IndexMap::with_hasher(alloc, key_of(digests.as_slice()));
+        let mut held = room_for(alloc, digests.as_slice())?;
         let mut least: Option<Digest> = None;
         for (place, text) in texts.iter().enumerate() {
             if let Some(digest) = hold(&mut held, digests[place], Text::copy(alloc, text)?)? {

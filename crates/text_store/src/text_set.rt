@@ -49,10 +49,10 @@ impl TextSet {
         ensures ok { OnOk result (self.new ≡ with_text self.old text.now) }
         ensures err { OnErr result (self.new ≡ self.old) }
     {
-        if self.texts.contains(text) {
-            return Ok(());
-        }
         if text.len() > u32::MAX as usize || self.texts.len() >= u32::MAX as usize {
+            if self.texts.contains(text) {
+                return Ok(());
+            }
             return Err(AllocError);
         }
         match self.texts.insert(Vec::from_slice(self.alloc, text)?) {

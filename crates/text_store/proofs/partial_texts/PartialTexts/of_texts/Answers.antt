@@ -12,7 +12,7 @@ use Rattle.text_store.proofs.partial_texts.PartialTexts.of_texts.Goals as goal
 use Rattle.text_store.proofs.partial_texts.PartialTexts.of_texts.Goals.{in-Some-2, in_default-2}
 
 pub loop-place-init : goal.loop-place-init
-loop-place-init c = Gathers-init (bytes_of c.args.texts.now) _ c.with_hasher-held.ensures.empty
+loop-place-init c = Gathers-init (bytes_of c.args.texts.now) _ c.in_ok-held.ensures
 
 pub hold-requires : goal.hold-requires
 hold-requires c =
@@ -26,11 +26,11 @@ loop-place-preserved c =
     let within : c.loop-place.place < length (bytes_of c.args.texts.now) = omega (arith, long, c.loop-place-test.true) in
     let here : get_or (bytes_of c.args.texts.now) c.loop-place.place [] ≡ c.in_ok-copy.field-0 = element c.args.texts.now c.loop-place.place _ c.in_ok-copy.field-0 refl c.in_ok-copy.ensures.copy in
     let small : AreBytes c.in_ok-copy.field-0 = subst AreBytes (sym c.in_ok-copy.ensures.copy) c.copy.ensures.bytes in
-    elim c.match-branch-4.branch [
-      | in-Some-2 w ↦ Gathers-more (bytes_of c.args.texts.now) c.loop-place.place c.in_ok-copy.field-0 c.loop-place.held.entries c.hold.new.held.entries c.loop-place.least c.match-branch-4.least within here small c.in_ok-digest.ensures.has
+    elim c.match-branch-5.branch [
+      | in-Some-2 w ↦ Gathers-more (bytes_of c.args.texts.now) c.loop-place.place c.in_ok-copy.field-0 c.loop-place.held.entries c.hold.new.held.entries c.loop-place.least c.match-branch-5.least within here small c.in_ok-digest.ensures.has
           (ap name_of w.least-is ∙ w.least_of.ensures ∙ ap (lesser (name_of c.loop-place.least)) (sym (ap name_of w.in-Some-2.is) ∙ c.in_ok-digest.ensures.taken))
           (λ none. absurd (some_is_none w.least_of.result (sym w.least-is ∙ none))) c.loop-place.invariant
-      | in_default-2 w ↦ Gathers-more (bytes_of c.args.texts.now) c.loop-place.place c.in_ok-copy.field-0 c.loop-place.held.entries c.hold.new.held.entries c.loop-place.least c.match-branch-4.least within here small c.in_ok-digest.ensures.has
+      | in_default-2 w ↦ Gathers-more (bytes_of c.args.texts.now) c.loop-place.place c.in_ok-copy.field-0 c.loop-place.held.entries c.hold.new.held.entries c.loop-place.least c.match-branch-5.least within here small c.in_ok-digest.ensures.has
           (ap name_of w.least-is ∙ sym (lesser-none (name_of c.loop-place.least)) ∙ ap (lesser (name_of c.loop-place.least)) (sym (ap name_of w.in_default-2.is) ∙ c.in_ok-digest.ensures.taken))
           (λ none. (subst (λ o. IfNone o (c.hold.new.held.entries ≡ c.loop-place.held.entries ++ fresh_entry c.in_ok-copy.field-0 ∷ [])) w.in_default-2.is c.in_ok-digest.ensures.last, sym w.least-is ∙ none)) c.loop-place.invariant
     ]
