@@ -1,9 +1,9 @@
 -- Both sides of a balance, as they are told of lists in the order of digests.
-use Rattle.std.proofs.Common.{◌≡◌, ℕ, ◌+◌, ◌-◌, ◌<◌, ◌≤◌, Bool, false, nat_eq, ltb, cond, count_by, List, [], ◌∷◌, ◌++◌, length, map, take, get_or, All, Contains, filter, IsSorted, IsPermutation, Result, Ok, Err, is_err, OnOk, refl, sym, ap, ap₂, ◌∙◌, subst, arith}
+use Rattle.std.proofs.Common.{◌≡◌, ℕ, ◌+◌, ◌-◌, ◌<◌, ◌≤◌, Bool, nat_eq, ltb, cond, count_by, List, [], ◌∷◌, ◌++◌, length, map, take, get_or, All, Contains, filter, IsSorted, IsPermutation, refl, sym, ap, ap₂, ◌∙◌, subst, arith}
 use mathlib.Core.List.{map-map}
 use Rattle.std.specs.Cmp.Lexicographic.{pointwise, texts_ties}
 use Rattle.std.specs.List.{dedup}
-use Rattle.std.proofs.lemmas.Bool.{true≢false, lt-ltb, le-ltb, ltb-true, cond-true, cond-false}
+use Rattle.std.proofs.lemmas.Bool.{lt-ltb, le-ltb, ltb-true, cond-true, cond-false}
 use Rattle.std.proofs.lemmas.Cmp.{on_total, on_equiv, nat_list_eq_equiv}
 use Rattle.std.proofs.lemmas.List.{map-append, map-id, append-nil, length-map, get_or-map}
 use Rattle.std.proofs.lemmas.List.Elements.{All-map, All-weaker, All-contains, Contains-get_or, filter_more, filter_passes}
@@ -141,12 +141,6 @@ module _ (gained others : List Gained) (lost others' : List Digest) (moved : IsP
       all = λ d less. subst (Contains losses) (lost_same d) (told.is_lost.all d (omega (arith, gains_same d.0, losses_same d.0)));
     };
   }
-
--- ---- a call that gave no error
-
-pub no_error : {T E : Type 0} (r : Result T E) (P : Type 0) → false ≡ is_err r → OnOk r P → P
-no_error (Ok x) P told p = p
-no_error (Err e) P told p = absurd (true≢false (sym told))
 
 -- ---- for whoever knows the entries one by one
 

@@ -1,6 +1,7 @@
 -- The code's subtrees in the words of the model.
-use Rattle.std.proofs.Common.{◌≡◌, ℕ, List, [], ◌∷◌, Some, IfSome, IfNone, refl, sym, ◌∙◌, ap, arith}
+use Rattle.std.proofs.Common.{◌≡◌, ◌≤◌, ℕ, List, [], ◌∷◌, length, Some, IfSome, IfNone, refl, sym, ◌∙◌, ap, arith}
 use Rattle.sha2.specs.Sha256.{sha256}
+use Rattle.base_core.specs.declared.hash.Digest.{Digest}
 use Rattle.byte_model.specs.Node as node
 use Rattle.byte_model.specs.Node.{own_cost}
 use Rattle.node_codec.specs.Meanings.{value_of}
@@ -37,6 +38,10 @@ under nibbles (Extension path child used) = refl
 
 pub under-top : (nibbles : List ℕ) (sub lower : Sub) → lower ≡ under_of nibbles sub → top_of_sub lower ≡ lowered nibbles (top_of_sub sub)
 under-top nibbles sub lower e = ap top_of_sub e ∙ under nibbles sub
+
+pub branch-under : (nibbles : List ℕ) (digest : Digest) (used : ℕ) → 1 ≤ length nibbles → Extension nibbles digest used ≡ under_of nibbles (Branch digest used)
+branch-under [] digest used some = absurd (omega arith)
+branch-under (x ∷ nibbles) digest used some = refl
 
 -- ---- its record
 

@@ -1,5 +1,6 @@
 -- The code's subtrees and children in the words of the model, and what is asked of them before records are written.
-use Rattle.std.specs.Prelude.{◌≡◌, ℕ, zero, suc, ◌^◌, ◌<◌, ◌≤◌, List, [], ◌∷◌, length, Option, None, Some, IfSome, ⊤}
+use Rattle.std.specs.Prelude.{◌≡◌, ℕ, zero, suc, ◌^◌, ◌<◌, ◌≤◌, List, [], ◌∷◌, length, Option, None, Some, IfSome, option_map, slice_set, ⊤}
+use Rattle.base_core.specs.declared.hash.Digest.{Digest}
 use Rattle.byte_model.specs.Node as node
 use Rattle.byte_model.specs.Node.{ValueRef, IsShaped, longest_value}
 use Rattle.node_codec.specs.Meanings.{value_of}
@@ -64,6 +65,12 @@ pub record CanJoin (ref : Option ValueRef) (kids : ℕ → Kid) (used : ℕ) : T
   pub fits : branch_used ref kids used < 2 ^ 64
   pub value : IfSome ref (λ r. r.length ≤ longest_value)
   pub lone : (x : ℕ) → ref ≡ None → there kids ≡ x ∷ [] → IsKnown (kids x)
+
+-- A name is put among those of a branch's children.
+pub record IsNamedAt (old new : List (Option Digest)) (nibble : ℕ) (digest : Option (List ℕ)) : Type 0 where
+  pub name : Option Digest
+  pub names : option_map (λ d. d.0) name ≡ digest
+  pub kids : new ≡ slice_set old nibble name
 
 -- what is left of a branch without a child
 abbrev pub childless : Option ValueRef → Top

@@ -21,12 +21,8 @@ pub(crate) fn balance(alloc: Global, ledger: Ledger) -> Result<(Made, Lost), Upd
         mut lost,
         ..
     } = ledger;
-    if gained.sort_by_key(|entry| entry.digest).is_err() {
-        return Err(UpdateError::NoMemory);
-    }
-    if lost.sort().is_err() {
-        return Err(UpdateError::NoMemory);
-    }
+    gained.sort_unstable_by_key(|entry| entry.digest);
+    lost.sort_unstable();
     if let Err(error) = agree(alloc, &gained) {
         return Err(error);
     }
@@ -104,7 +100,7 @@ fn made_texts(
     ensures { IfOk result (λ texts. IsMade gained.items lost.now texts.items) }
 {
     gained.dedup_by_key(|entry| entry.digest);
-    let mut texts = Vec::new(alloc);
+    let mut texts = Vec::with_capacity(alloc, gained.len())?;
     let mut gains_place = 0;
     let mut lost_place = 0;
     for Gained { digest, text } in gained {
@@ -127,7 +123,7 @@ fn lost_texts(alloc: Global, gains: &[Digest], lost: &[Digest]) -> Result<Vec<Lo
 {
     let mut digests = Vec::from_slice(alloc, lost)?;
     digests.dedup();
-    let mut texts = Vec::new(alloc);
+    let mut texts = Vec::with_capacity(alloc, digests.len())?;
     let mut gains_place = 0;
     let mut lost_place = 0;
     for digest in &digests {

@@ -1,4 +1,8 @@
+ghost use Rattle.std.specs.Prelude.{◌≡◌};
+ghost use Rattle.trie_update.specs.declared.errors.UpdateError.TheVariants.{NoMemory};
+
 use base_core::{Digest, Text};
+use std::alloc::AllocError;
 
 /// Why a batch was not carried out.
 #[derive(Debug, Drop)]
@@ -25,4 +29,12 @@ pub enum UpdateError {
     Fault,
     /// There was no memory.
     NoMemory,
+}
+
+impl From<AllocError> for UpdateError {
+    ghost from_gives = { λ _ given. given ≡ NoMemory };
+
+    fn from(_error: AllocError) -> UpdateError {
+        UpdateError::NoMemory
+    }
 }

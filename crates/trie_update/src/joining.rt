@@ -1,4 +1,4 @@
-ghost use Rattle.std.specs.Prelude.{◌≡◌, ◌+◌, ◌^◌, ◌<◌, ℕ, [], ◌∷◌, length, drop, option_map, Some, IfSome, IsTrue, OnOk, IfOk, IfErr};
+ghost use Rattle.std.specs.Prelude.{◌≡◌, ◌+◌, ◌^◌, ◌<◌, ℕ, [], ◌∷◌, length, drop, option_map, Some, IfSome, IsTrue, OnOk, IfOk};
 ghost use Rattle.byte_model.specs.Node as node;
 ghost use Rattle.byte_model.specs.Node.{IsShaped, own_cost};
 ghost use Rattle.node_codec.specs.Meanings.{children_in, value_of};
@@ -11,10 +11,8 @@ ghost use Rattle.trie_shape.specs.Shows.{IsRecord};
 ghost use Rattle.trie_update.specs.Accounts.{Gains};
 ghost use Rattle.trie_update.specs.Adds.{Adds};
 ghost use Rattle.trie_update.specs.Formers.{IsFormer};
-ghost use Rattle.trie_update.specs.Subs.{CanFork, CanJoin, IsFew, IsKnown, KidStands, childless, kid_at, kid_of, more, top_of_sub};
-ghost use Rattle.trie_update.specs.declared.errors.UpdateError.TheVariants.{NoMemory};
+ghost use Rattle.trie_update.specs.Subs.{CanFork, CanJoin, IsFew, IsKnown, IsNamedAt, KidStands, childless, kid_at, kid_of, more, top_of_sub};
 
-use crate::errors::UpdateError;
 use crate::former::FormerBranch;
 use crate::ledger::Ledger;
 use base_core::{Digest, Text};
@@ -42,14 +40,10 @@ pub(crate) struct Left {
 }
 
 /// A child whose top is known.
-pub(crate) fn known(alloc: Global, sub: Sub) -> Result<Child, UpdateError>
+pub(crate) fn known(alloc: Global, sub: Sub) -> Result<Child, AllocError>
     ensures child { IfOk result (λ child. kid_of child ≡ model.known (top_of_sub sub)) }
-    ensures error { IfErr result (λ error. error ≡ NoMemory) }
 {
-    match Box::new(alloc, sub) {
-        Ok(sub) => Ok(Child::Known(sub)),
-        Err(_) => Err(UpdateError::NoMemory),
-    }
+    Ok(Child::Known(Box::new(alloc, sub)?))
 }
 
 /// How many children are there, and which one where it is alone.
@@ -113,13 +107,12 @@ pub(crate) fn join(
     former: Option<&FormerBranch<'_>>,
     left: Left,
     kept_usage: u64,
-) -> Result<Sub, UpdateError>
+) -> Result<Sub, AllocError>
     requires sixteen { length left.children.items ≡ 16 }
     requires former { IfSome former (λ f. IsFormer f.now) }
     requires joins { CanJoin (option_map value_of left.value) (kid_at left.children.items) kept_usage }
     ensures top { IfOk result (λ sub. top_of_sub sub ≡ (joint (option_map value_of left.value) (kid_at left.children.items) kept_usage).top) }
     ensures adds { OnOk result (Adds ledger.old ledger.new (joint (option_map value_of left.value) (kid_at left.children.items) kept_usage).made [] 0 0) }
-    ensures error { IfErr result (λ error. error ≡ NoMemory) }
 {
     let Left { value, children } = left;
     match count_few(&children) {
@@ -151,14 +144,13 @@ fn one_child(
     children: Vec<Child>,
     nibble: usize,
     kept_usage: u64,
-) -> Result<Sub, UpdateError>
+) -> Result<Sub, AllocError>
     requires sixteen { length children.items ≡ 16 }
     requires former { IfSome former (λ f. IsFormer f.now) }
     requires joins { CanJoin (option_map value_of value) (kid_at children.items) kept_usage }
     requires one { there (kid_at children.items) ≡ nibble ∷ [] }
     ensures top { IfOk result (λ sub. top_of_sub sub ≡ (joint (option_map value_of value) (kid_at children.items) kept_usage).top) }
     ensures adds { OnOk result (Adds ledger.old ledger.new (joint (option_map value_of value) (kid_at children.items) kept_usage).made [] 0 0) }
-    ensures error { IfErr result (λ error. error ≡ NoMemory) }
 {
     match value {
         None => lone(alloc, children, nibble),
@@ -167,12 +159,11 @@ fn one_child(
 }
 
 /// The child that is all that is left, below its nibble.
-fn lone(alloc: Global, mut children: Vec<Child>, nibble: usize) -> Result<Sub, UpdateError>
+fn lone(alloc: Global, mut children: Vec<Child>, nibble: usize) -> Result<Sub, AllocError>
     requires sixteen { length children.items ≡ 16 }
     requires inside { nibble < 16 }
     requires known { IsKnown (kid_at children.items nibble) }
     ensures top { IfOk result (λ sub. top_of_sub sub ≡ lowered (nibble ∷ []) (kid_top (kid_at children.items nibble))) }
-    ensures error { IfErr result (λ error. error ≡ NoMemory) }
 {
     match children.swap_remove(nibble) {
         Child::Known(sub) => under(alloc, Box::into_inner(sub), &[nibble as u8]),
@@ -183,14 +174,10 @@ fn lone(alloc: Global, mut children: Vec<Child>, nibble: usize) -> Result<Sub, U
 }
 
 /// Puts nibbles before a subtree.
-pub(crate) fn under(alloc: Global, sub: Sub, nibbles: &[u8]) -> Result<Sub, UpdateError>
+fn under(alloc: Global, sub: Sub, nibbles: &[u8]) -> Result<Sub, AllocError>
     ensures top { IfOk result (λ lower. top_of_sub lower ≡ lowered nibbles.now (top_of_sub sub)) }
-    ensures error { IfErr result (λ error. error ≡ NoMemory) }
 {
-    match sub.under(alloc, nibbles) {
-        Ok(sub) => Ok(sub),
-        Err(AllocError) => Err(UpdateError::NoMemory),
-    }
+    sub.under(alloc, nibbles)
 }
 
 /// A branch. The records of its children are written, and then its own.
@@ -201,21 +188,18 @@ fn fork(
     value: Option<ValueRef>,
     children: Vec<Child>,
     kept_usage: u64,
-) -> Result<Sub, UpdateError>
+) -> Result<Sub, AllocError>
     requires sixteen { length children.items ≡ 16 }
     requires former { IfSome former (λ f. IsFormer f.now) }
     requires forks { CanFork (option_map value_of value) (kid_at children.items) kept_usage }
     ensures top { IfOk result (λ sub. top_of_sub sub ≡ (branched (option_map value_of value) (kid_at children.items) kept_usage).top) }
     ensures adds { OnOk result (Adds ledger.old ledger.new (branched (option_map value_of value) (kid_at children.items) kept_usage).made [] 0 0) }
-    ensures error { IfErr result (λ error. error ≡ NoMemory) }
 {
-    let mut kids = no_kids(alloc)?;
+    let mut kids = Kids::NONE;
     let mut usage = kept_usage;
     let mut rest = VecDeque::from_vec(children);
     for nibble in 0..16 {
-        let (name, used) = next_name(alloc, ledger, &mut rest)?;
-        kids.set(nibble, name);
-        usage += used;
+        usage += name_next(alloc, ledger, &mut rest, &mut kids, nibble)?;
     }
     let closed = close(alloc, former, value, &kids, usage)?;
     branch_written(ledger, closed)
@@ -229,12 +213,11 @@ fn close(
     value: Option<ValueRef>,
     kids: &Kids,
     usage: u64,
-) -> Result<Closed, UpdateError>
+) -> Result<Closed, AllocError>
     requires former { IfSome former (λ f. IsFormer f.now) }
     requires shaped { IsShaped (node.branch (option_map value_of value) (children_in kids.now)) }
     requires fits { own_cost (node.branch (option_map value_of value) (children_in kids.now)) + usage < 2 ^ 64 }
     ensures written { IfOk result (λ closed. IsRecord closed (node.branch (option_map value_of value) (children_in kids.now)) (own_cost (node.branch (option_map value_of value) (children_in kids.now)) + usage)) }
-    ensures error { IfErr result (λ error. error ≡ NoMemory) }
 {
     if let Some(branch) = former {
         if stays(branch, &value, kids, usage) {
@@ -243,7 +226,7 @@ fn close(
     }
     match close_branch(alloc, value, kids, usage) {
         Ok(closed) => Ok(closed),
-        Err(CloseError::NoMemory) => Err(UpdateError::NoMemory),
+        Err(CloseError::NoMemory) => Err(AllocError),
         Err(CloseError::Usage) => unreachable!(),
     }
 }
@@ -272,51 +255,51 @@ fn are_same(kids: &Kids, others: &Kids) -> bool
 }
 
 /// Writes the record of a branch once more.
-fn close_again(alloc: Global, branch: &FormerBranch<'_>) -> Result<Closed, UpdateError>
+fn close_again(alloc: Global, branch: &FormerBranch<'_>) -> Result<Closed, AllocError>
     requires { IsFormer branch.now }
     ensures written { IfOk result (λ closed. IsRecord closed (node.branch (option_map value_of branch.now.value.now) (children_in branch.now.kids.now)) branch.now.stated) }
-    ensures error { IfErr result (λ error. error ≡ NoMemory) }
 {
-    match write_branch(alloc, branch.value, branch.kids, branch.stated) {
-        Ok(text) => Ok(Closed {
-            text,
-            digest: *branch.digest,
-            usage: branch.stated,
-        }),
-        Err(AllocError) => Err(UpdateError::NoMemory),
-    }
+    let text = write_branch(alloc, branch.value, branch.kids, branch.stated)?;
+    Ok(Closed {
+        text,
+        digest: *branch.digest,
+        usage: branch.stated,
+    })
 }
 
-#[inline(never)]
-fn no_kids(alloc: Global) -> Result<Box<Kids>, UpdateError>
-    ensures sixteen { IfOk result (λ kids. length kids.value ≡ 16) }
-    ensures error { IfErr result (λ error. error ≡ NoMemory) }
-{
-    match Box::new(alloc, Kids::NONE) {
-        Ok(kids) => Ok(kids),
-        Err(_) => Err(UpdateError::NoMemory),
-    }
-}
-
-/// The name of the next child and its usage, or 0 where only its name is known.
-fn next_name(
+/// Puts the name of the next child among those of its branch, and answers the child's usage, or 0
+/// where only its name is known.
+#[inline(always)]
+fn name_next(
     alloc: Global,
     ledger: &mut Ledger,
     children: &mut VecDeque<Child>,
-) -> Result<(Option<Digest>, u64), UpdateError>
+    kids: &mut Kids,
+    nibble: u8,
+) -> Result<u64, AllocError>
     requires some { 0 < length children.old.items }
     requires stands { KidStands (kid_at children.old.items 0) }
     requires fits { kid_usage (kid_at children.old.items 0) < 2 ^ 64 }
-    ensures name { IfOk result (λ name. option_map (λ d. d.0) name.0 ≡ kid_name (kid_at children.old.items 0)) }
-    ensures used { IfOk result (λ name. name.1 ≡ kid_usage (kid_at children.old.items 0)) }
+    requires inside { nibble < 16 }
+    ensures name { OnOk result (IsNamedAt kids.old kids.new nibble (kid_name (kid_at children.old.items 0))) }
+    ensures used { IfOk result (λ used. used ≡ kid_usage (kid_at children.old.items 0)) }
     ensures adds { OnOk result (Adds ledger.old ledger.new (kid_pending (kid_at children.old.items 0)) [] 0 0) }
     ensures rest { OnOk result (children.new.items ≡ drop 1 children.old.items) }
-    ensures error { IfErr result (λ error. error ≡ NoMemory) }
 {
     match children.pop_front() {
-        Some(Child::Named(digest)) => Ok((Some(digest), 0)),
-        Some(Child::Absent) => Ok((None, 0)),
-        Some(Child::Known(sub)) => recorded(alloc, ledger, Box::into_inner(sub)),
+        Some(Child::Named(digest)) => {
+            kids.set(nibble, Some(digest));
+            Ok(0)
+        }
+        Some(Child::Absent) => {
+            kids.set(nibble, None);
+            Ok(0)
+        }
+        Some(Child::Known(sub)) => {
+            let (name, used) = recorded(alloc, ledger, Box::into_inner(sub))?;
+            kids.set(nibble, name);
+            Ok(used)
+        }
         None => unreachable!(),
     }
 }
@@ -326,13 +309,12 @@ pub(crate) fn recorded(
     alloc: Global,
     ledger: &mut Ledger,
     sub: Sub,
-) -> Result<(Option<Digest>, u64), UpdateError>
+) -> Result<(Option<Digest>, u64), AllocError>
     requires stands { StandsAt 0 (top_of_sub sub) }
     requires fits { top_usage (top_of_sub sub) < 2 ^ 64 }
     ensures name { IfOk result (λ name. option_map (λ d. d.0) name.0 ≡ top_digest (top_of_sub sub)) }
     ensures used { IfOk result (λ name. name.1 ≡ top_usage (top_of_sub sub)) }
     ensures adds { OnOk result (Adds ledger.old ledger.new (pending (top_of_sub sub)) [] 0 0) }
-    ensures error { IfErr result (λ error. error ≡ NoMemory) }
 {
     match sub {
         Sub::Empty => Ok((None, 0)),
@@ -340,17 +322,16 @@ pub(crate) fn recorded(
         sub => match sub.close(alloc) {
             Ok(Some(closed)) => written(ledger, closed),
             Ok(None) => unreachable!(),
-            Err(CloseError::NoMemory) => Err(UpdateError::NoMemory),
+            Err(CloseError::NoMemory) => Err(AllocError),
             Err(CloseError::Usage) => unreachable!(),
         },
     }
 }
 
 /// A record that was written, its name and its usage. It is gained.
-fn written(ledger: &mut Ledger, closed: Closed) -> Result<(Option<Digest>, u64), UpdateError>
+fn written(ledger: &mut Ledger, closed: Closed) -> Result<(Option<Digest>, u64), AllocError>
     ensures name { IfOk result (λ name. name ≡ (Some closed.digest, closed.usage)) }
     ensures gains { OnOk result (Gains ledger.old ledger.new closed.digest closed.text) }
-    ensures error { IfErr result (λ error. error ≡ NoMemory) }
 {
     let Closed {
         text,
@@ -361,10 +342,9 @@ fn written(ledger: &mut Ledger, closed: Closed) -> Result<(Option<Digest>, u64),
     Ok((Some(digest), usage))
 }
 
-fn branch_written(ledger: &mut Ledger, closed: Closed) -> Result<Sub, UpdateError>
+fn branch_written(ledger: &mut Ledger, closed: Closed) -> Result<Sub, AllocError>
     ensures branch { IfOk result (λ sub. sub ≡ Branch closed.digest closed.usage) }
     ensures gains { OnOk result (Gains ledger.old ledger.new closed.digest closed.text) }
-    ensures error { IfErr result (λ error. error ≡ NoMemory) }
 {
     let Closed {
         text,

@@ -1,8 +1,6 @@
-ghost use Rattle.std.specs.Prelude.{◌≡◌, [], OnOk, IfErr};
+ghost use Rattle.std.specs.Prelude.{◌≡◌, [], OnOk};
 ghost use Rattle.trie_update.specs.Accounts.{Gains, Loses};
-ghost use Rattle.trie_update.specs.declared.errors.UpdateError.TheVariants.{NoMemory};
 
-use crate::errors::UpdateError;
 use base_core::{Digest, Text};
 use std::alloc::{AllocError, Global};
 
@@ -38,24 +36,16 @@ impl Ledger {
     }
 
     /// One more occurrence of a text that is made.
-    pub(crate) fn gain(&mut self, digest: Digest, text: Text) -> Result<(), UpdateError>
+    pub(crate) fn gain(&mut self, digest: Digest, text: Text) -> Result<(), AllocError>
         ensures gains { OnOk result (Gains self.old self.new digest text) }
-        ensures error { IfErr result (λ error. error ≡ NoMemory) }
     {
-        match self.gained.push(Gained { digest, text }) {
-            Ok(()) => Ok(()),
-            Err(_) => Err(UpdateError::NoMemory),
-        }
+        Ok(self.gained.push(Gained { digest, text })?)
     }
 
     /// One occurrence less of the text under a digest.
-    pub(crate) fn lose(&mut self, digest: Digest) -> Result<(), UpdateError>
+    pub(crate) fn lose(&mut self, digest: Digest) -> Result<(), AllocError>
         ensures loses { OnOk result (Loses self.old self.new digest) }
-        ensures error { IfErr result (λ error. error ≡ NoMemory) }
     {
-        match self.lost.push(digest) {
-            Ok(()) => Ok(()),
-            Err(_) => Err(UpdateError::NoMemory),
-        }
+        Ok(self.lost.push(digest)?)
     }
 }

@@ -1,4 +1,4 @@
-ghost use Rattle.std.specs.Prelude.{◌≡◌, ◌+◌, ◌-◌, ◌≤◌, [], length, false, option_map, OnOk, IfOk, IfErr};
+ghost use Rattle.std.specs.Prelude.{◌≡◌, ◌+◌, ◌-◌, ◌≤◌, [], length, false, option_map, OnOk, IfOk};
 ghost use Rattle.byte_model.specs.PackedPath.{longest_path};
 ghost use Rattle.visit_model.specs.Seen.{seen_at};
 ghost use Rattle.change_model.specs.Visits.{before, closed, merge_usage, merge_visits, visit_alone};
@@ -10,7 +10,6 @@ ghost use Rattle.trie_update.specs.Carries.{Carries};
 ghost use Rattle.trie_update.specs.Formers.{IsFormer};
 ghost use Rattle.trie_update.specs.Merges.{CanSettle, IsAlone, IsLoneNamed, IsMerged, MergedStands, lone_named, lost_read, seen_kids, top_read};
 ghost use Rattle.trie_update.specs.Subs.{kid_at, top_of_sub};
-ghost use Rattle.trie_update.specs.declared.errors.UpdateError.TheVariants.{NoMemory};
 
 use crate::errors::UpdateError;
 use crate::former::FormerBranch;
@@ -19,7 +18,7 @@ use crate::ledger::Ledger;
 use crate::visiting::{Visited, states_enough, visit};
 use base_core::Digest;
 use node_codec::{Node, ValueRef};
-use std::alloc::Global;
+use std::alloc::{AllocError, Global};
 use text_store::Texts;
 use trie_shape::Sub;
 
@@ -51,7 +50,7 @@ pub(crate) fn settle<T: Texts>(
     let (left, merged) = merge(alloc, store, ledger, left, depth)?;
     let parts = above.saturating_add(merged);
     states_enough(former.digest, former.stated, parts)?;
-    join(alloc, ledger, Some(former), left, former.stated - parts)
+    Ok(join(alloc, ledger, Some(former), left, former.stated - parts)?)
 }
 
 /// Visits the one child that is all that is left of a branch, if it was not visited before, and
@@ -126,11 +125,10 @@ fn lone_sub(
     node: Node,
     stated: u64,
     own: u64,
-) -> Result<Sub, UpdateError>
+) -> Result<Sub, AllocError>
     requires { own ≤ stated }
     ensures top { IfOk result (λ sub. top_of_sub sub ≡ top_read digest.0 node stated own) }
     ensures adds { OnOk result (Adds ledger.old ledger.new [] (lost_read digest.0 node) 0 0) }
-    ensures error { IfErr result (λ error. error ≡ NoMemory) }
 {
     match node {
         Node::Branch { .. } => Ok(Sub::Branch {

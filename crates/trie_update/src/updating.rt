@@ -21,14 +21,14 @@ ghost use Rattle.trie_update.specs.declared.errors.UpdateError.TheVariants.{NoMe
 
 use crate::errors::UpdateError;
 use crate::former::{Former, FormerBranch, Parent};
-use crate::joining::{Child, Left, join, known, no_children, under};
+use crate::joining::{Child, Left, join, known, no_children};
 use crate::ledger::Ledger;
 use crate::merging::settle;
 use crate::old::{Old, shared_length};
 use crate::parting::{KeyChange, alone, ending, run_length};
 use crate::values::value_after;
 use crate::visiting::{Visited, states_enough, visit};
-use base_core::Digest;
+use base_core::{Digest, Text};
 use nibble_keys::Nibbles;
 use node_codec::{Kids, Node, ValueRef};
 use std::alloc::{AllocError, Global};
@@ -207,13 +207,44 @@ fn lower(
     }
     let (key, _) = changes[0];
     let Placed { sub, stated } = placed;
-    match nibbles_of(alloc, key, depth, count) {
-        Ok(prefix) => {
-            let sub = under(alloc, sub, &prefix)?;
-            Ok(Placed { sub, stated })
-        }
-        Err(AllocError) => Err(UpdateError::NoMemory),
+    let prefix = nibbles_of(alloc, key, depth, count)?;
+    let sub = prefixed(sub, prefix)?;
+    Ok(Placed { sub, stated })
+}
+
+/// Puts nibbles before a subtree. They become its path, or the beginning of it.
+fn prefixed(sub: Sub, prefix: Vec<u8>) -> Result<Sub, AllocError>
+    requires some { 1 ≤ length prefix.items }
+    ensures top { IfOk result (λ lower. top_of_sub lower ≡ lowered prefix.items (top_of_sub sub)) }
+{
+    match sub {
+        Sub::Empty => Ok(Sub::Empty),
+        Sub::Leaf { path, value } => Ok(Sub::Leaf {
+            path: joined(prefix, path.as_slice())?,
+            value,
+        }),
+        Sub::Branch { digest, usage } => Ok(Sub::Extension {
+            path: Text::from_bytes(prefix),
+            child: digest,
+            child_usage: usage,
+        }),
+        Sub::Extension {
+            path,
+            child,
+            child_usage,
+        } => Ok(Sub::Extension {
+            path: joined(prefix, path.as_slice())?,
+            child,
+            child_usage,
+        }),
     }
+}
+
+fn joined(mut prefix: Vec<u8>, path: &[u8]) -> Result<Text, AllocError>
+    ensures { IfOk result (λ text. text ≡ prefix.items ++ path.now) }
+{
+    prefix.extend_from_slice(path)?;
+    Ok(Text::from_bytes(prefix))
 }
 
 /// Some nibbles of a key, one to a byte.
@@ -278,14 +309,13 @@ fn value_alone(
     ledger: &mut Ledger,
     former: Option<ValueRef>,
     change: Option<&[u8]>,
-) -> Result<Sub, UpdateError>
+) -> Result<Sub, AllocError>
     requires short { IfSome change (λ v. length v.now ≤ longest_value) }
     requires room { CanCount ledger.old 1 }
     requires named { IsNamed ledger.old }
     ensures top { IfOk result (λ sub. top_of_sub sub ≡ childless (ref_after (option_map value_of former) (Some (value_lent change.entry)))) }
     ensures grows { OnOk result (GrowsBy ledger.old ledger.new (option_map value_of former) (Some (value_lent change.entry))) }
     ensures names { OnOk result (IsNamed ledger.new) }
-    ensures error { IfErr result (λ error. error ≡ NoMemory) }
 {
     let value = value_after(alloc, ledger, former, Some(change))?;
     Ok(no_children(alloc, value))
@@ -348,7 +378,7 @@ fn at_nibbles<T: Texts>(
 {
     let (here, mut rest) = ending(changes, depth);
     let value = value_after(alloc, ledger, former, here)?;
-    let mut children = room_for_children(alloc)?;
+    let mut children = Vec::with_capacity(alloc, 16)?;
     let mut stated = 0u64;
     for nibble in 0..16 {
         let (run, others) = rest.split_at(run_length(rest, depth, nibble));
@@ -360,26 +390,11 @@ fn at_nibbles<T: Texts>(
     Ok((Left { value, children }, stated))
 }
 
-/// No children yet, with room for those at all sixteen nibbles.
-fn room_for_children(alloc: Global) -> Result<Vec<Child>, UpdateError>
-    ensures items { IfOk result (λ children. children.items ≡ []) }
-    ensures error { IfErr result (λ error. error ≡ NoMemory) }
-{
-    match Vec::with_capacity(alloc, 16) {
-        Ok(children) => Ok(children),
-        Err(_) => Err(UpdateError::NoMemory),
-    }
-}
-
 #[inline(always)]
-fn push(children: &mut Vec<Child>, child: Child) -> Result<(), UpdateError>
+fn push(children: &mut Vec<Child>, child: Child) -> Result<(), AllocError>
     ensures items { OnOk result (children.new.items ≡ children.old.items ++ child ∷ []) }
-    ensures error { IfErr result (λ error. error ≡ NoMemory) }
 {
-    match children.push(child) {
-        Ok(()) => Ok(()),
-        Err(_) => Err(UpdateError::NoMemory),
-    }
+    Ok(children.push(child)?)
 }
 
 /// What has become of what stood behind a nibble, and what it stated where it was visited.
@@ -433,10 +448,9 @@ fn child_placed(alloc: Global, placed: Placed) -> Result<(Child, u64), UpdateErr
 
 /// The child that stood behind a nibble, where no key is changed.
 #[inline(always)]
-fn unchanged(alloc: Global, parent: &Parent<'_>, nibble: u8) -> Result<Child, UpdateError>
+fn unchanged(alloc: Global, parent: &Parent<'_>, nibble: u8) -> Result<Child, AllocError>
     requires { nibble < 16 }
     ensures child { IfOk result (λ child. (table : Table) (depth : ℕ) → kid_of child ≡ place_kid (place_behind table depth parent.now nibble) []) }
-    ensures error { IfErr result (λ error. error ≡ NoMemory) }
 {
     match *parent {
         Parent::Path(old, count) => unchanged_old(alloc, &old.behind(count, nibble)),
@@ -445,14 +459,12 @@ fn unchanged(alloc: Global, parent: &Parent<'_>, nibble: u8) -> Result<Child, Up
 }
 
 #[inline(always)]
-fn unchanged_old(alloc: Global, old: &Old<'_>) -> Result<Child, UpdateError>
+fn unchanged_old(alloc: Global, old: &Old<'_>) -> Result<Child, AllocError>
     ensures child { IfOk result (λ child. kid_of child ≡ kid.known (old_past 0 old.now)) }
-    ensures error { IfErr result (λ error. error ≡ NoMemory) }
 {
-    match old.sub(alloc) {
-        Ok(Sub::Empty) => Ok(Child::Absent),
-        Ok(sub) => known(alloc, sub),
-        Err(AllocError) => Err(UpdateError::NoMemory),
+    match old.sub(alloc)? {
+        Sub::Empty => Ok(Child::Absent),
+        sub => known(alloc, sub),
     }
 }
 

@@ -1,5 +1,4 @@
 use Rattle.std.proofs.Common.{◌≡◌, ◌<◌, ℕ, false, [], length, None, Ok, option_map, refl, ap, sym, subst, ◌∙◌, arith}
-use Rattle.std.specs.Prelude.{IsErrAnd}
 use Rattle.std.proofs.Math.ListN.{length-set}
 use Rattle.node_codec.specs.Meanings.{value_of}
 use Rattle.change_model.specs.Visits.{merge_visits, merge_usage, visit_alone}
@@ -61,7 +60,7 @@ returns-in_err-children-clause-carries g c =
     let visits = visits-found (store.texts old) c.args.depth (option_map value_of c.args.left.value) items c.in-Some.nibble c.in-Some.digest found in
     let all = subst (λ v. Carries {X = Sub × ℕ} store old new v (Ok (c.in_ok-sub.sub, c.in_ok-sub.stated))) (sym visits) c.in_ok-sub.ensures.carries in
     carries-passed store {X = Left × ℕ} {Y = Left × ℕ} old new _ NoMemory c.from_residual-in_err-children.result
-    (subst (λ e. IsErrAnd c.from_residual-in_err-children.result (λ given. given ≡ e)) c.in_err-children.ensures.error c.from_residual-in_err-children.ensures.1)
+    c.from_residual-in_err-children.ensures.1
     (carries-late store {X = Sub × ℕ} {Y = Left × ℕ} old new _ (c.in_ok-sub.sub, c.in_ok-sub.stated) all)
 
 pub returns-clause-carries : goal.returns-clause-carries

@@ -50,7 +50,7 @@ returns-in_err-sub-clause-carries g c =
     let first = carries-opened store {X = ℕ} old new digest.0 visited.stated 0 read.most c.in_ok-node.ensures.left in
     let all = carries-then store g.met.T.Texts.alike_onward old new new (opened digest.0 visited.stated) (closed digest.0 visited.stated visited.own) 0 _ first (carries-closed store {X = ℕ} new digest.0 visited.stated visited.own 0 same c.in_ok-states_enough.ensures.enough) in
     let whole = subst (λ v. Carries {X = ℕ} store old new v (Ok 0)) (sym read.visits) all in
-    carries-passed store old new (visit_alone (seen_at table c.args.depth false digest.0)) NoMemory c.from_residual-in_err-sub.result (subst (λ e. IsErrAnd c.from_residual-in_err-sub.result (λ given. given ≡ e)) c.in_err-sub.ensures.error c.from_residual-in_err-sub.ensures.1)
+    carries-passed store old new (visit_alone (seen_at table c.args.depth false digest.0)) NoMemory c.from_residual-in_err-sub.result c.from_residual-in_err-sub.ensures.1
     (carries-late store {Y = ℕ} old new (visit_alone (seen_at table c.args.depth false digest.0)) 0 whole)
 
 pub returns-clause-carries : goal.returns-clause-carries

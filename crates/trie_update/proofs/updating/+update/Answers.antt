@@ -218,7 +218,7 @@ at_digest-returns-in_err-lose-clause-carries g t c =
     let sees = sees-visited table depth after digest visited deep c.in_ok-node.ensures.answer in
     let onward = g.met.T.Texts.alike_onward in
     let same = g.met.T.Texts.alike_texts first mid left.same in
-    carries-passed store {X = Placed} {Y = Placed} first mid (visits_at (seen_at table depth after digest.0) cs) NoMemory c.from_residual-in_err-lose.result (subst (λ e. IsErrAnd c.from_residual-in_err-lose.result (λ given. given ≡ e)) c.in_err-lose.ensures.error c.from_residual-in_err-lose.ensures.1)
+    carries-passed store {X = Placed} {Y = Placed} first mid (visits_at (seen_at table depth after digest.0) cs) NoMemory c.from_residual-in_err-lose.result c.from_residual-in_err-lose.ensures.1
     (opened-short store onward first mid mid same depth after digest visited left cs (opens-first table depth after digest visited cs visited.node sees))
 
 pub at_digest-at_old-requires : goal.at_digest-at_old-requires
@@ -310,7 +310,7 @@ at_fork-returns-in_err-only-clause-carries g t c =
     let store = g.T.Texts.store in
     let now = c.args.store.now in
     let carried = ends-carries store g.met.T.Texts.alike_itself now (seen_past (store.texts now) c.args.depth c.args.shared c.args.old.now) (old_past c.args.shared c.args.old.now) (changes_at c.args.depth c.args.changes.now) (ends-past c.args.shared c.args.old.now (sym c.if-ends.ensures)) in
-    carries-passed store {X = Placed} {Y = Placed} now now _ NoMemory c.from_residual.result (subst (λ e. IsErrAnd c.from_residual.result (λ given. given ≡ e)) c.in_err-only.ensures.error c.from_residual.ensures.1) (carries-late store {X = ℕ} {Y = Placed} now now _ 0 carried)
+    carries-passed store {X = Placed} {Y = Placed} now now _ NoMemory c.from_residual.result c.from_residual.ensures.1 (carries-late store {X = ℕ} {Y = Placed} now now _ 0 carried)
 
 pub at_fork-returns-in-Some-clause-carries : goal.at_fork-returns-in-Some-clause-carries
 at_fork-returns-in-Some-clause-carries g t c =
@@ -372,7 +372,7 @@ at_fork-returns-in_err-sub-clause-carries g t c =
     let visits = places-visits table c.args.depth c.args.shared stood cs c.value_at-value.result c.value_at-value.ensures c.requires.reaches c.requires.forks c.requires.old below_it in
     let carried = subst (λ v. Carries {X = Left × ℕ} store old new v (Ok (c.in_ok-left.left, c.in_ok-left.stated))) visits c.in_ok-left.ensures.carries in
     carries-passed store {X = Placed} {Y = Placed} old new whole NoMemory c.from_residual-in_err-sub.result
-    (subst (λ e. IsErrAnd c.from_residual-in_err-sub.result (λ given. given ≡ e)) c.in_err-sub.ensures.error c.from_residual-in_err-sub.ensures.1)
+    c.from_residual-in_err-sub.ensures.1
     (carries-late store {X = Left × ℕ} {Y = Placed} old new whole (c.in_ok-left.left, c.in_ok-left.stated) carried)
 
 pub at_fork-returns-clause-carries : goal.at_fork-returns-clause-carries
@@ -543,7 +543,7 @@ at_nibbles-returns-in_err-push-clause-carries g t c =
     let now = store.texts c.loop-nibble.store in
     let place = ap (λ t. place_behind t c.args.depth c.args.parent.now c.loop-nibble.nibble) (sym texts) in
     carries-passed store {X = Left × ℕ} {Y = Left × ℕ} c.args.store.now c.at_nibble.new.store (visits_below (λ x. place_visits (places x) (run_at (changes_at c.args.depth c.args.changes.now) x)) 16) NoMemory c.from_residual-in_err-push.result
-    (subst (λ e. IsErrAnd c.from_residual-in_err-push.result (λ given. given ≡ e)) c.in_err-push.ensures.error c.from_residual-in_err-push.ensures.1)
+    c.from_residual-in_err-push.ensures.1
     (turn-short store c.args.depth ref places c.args.changes.now c.loop-nibble.rest.now c.loop-nibble.nibble c.loop-nibble.children.items c.loop-nibble.stated c.args.store.now c.loop-nibble.store c.args.ledger.now c.loop-nibble.ledger c.loop-nibble.invariant c.split_at.result.0.now c.split_at.result.1.now c.run_length.result c.run_length.ensures c.split_at.ensures.front c.split_at.ensures.back (place_behind now c.args.depth c.args.parent.now c.loop-nibble.nibble) place c.at_nibble.new.store c.at_nibble.new.ledger (c.in_ok-child.child, c.in_ok-child.used) c.in_ok-child.ensures.child g.met.T.Texts.alike_onward c.in_ok-child.ensures.carries {Y = Left × ℕ} c.loop-nibble-test.true)
 
 pub at_nibbles-returns-clause-carries : goal.at_nibbles-returns-clause-carries
