@@ -131,11 +131,17 @@ fn fields_past_the_end(rt: HostRuntime) {
     assert_eq!(rt; reader.bytes(), Err(BorshError::Short { at: 5 }));
     assert_eq!(rt; reader.place(), 1);
     assert_eq!(rt; reader.u32(), Ok(3));
-    assert_eq!(rt; reader.u32(), Err(BorshError::Short { at: 5 }));
-    assert_eq!(rt; reader.bytes(), Err(BorshError::Short { at: 5 }));
+}
+
+/// Two bytes, where a number of four or a vector's length would stand.
+#[test]
+fn bytes_past_the_end(rt: HostRuntime) {
+    let mut reader = Reader::new(b"\x01\x02");
+    assert_eq!(rt; reader.u32(), Err(BorshError::Short { at: 0 }));
+    assert_eq!(rt; reader.bytes(), Err(BorshError::Short { at: 0 }));
     assert_eq!(rt; reader.take(2), Ok(b"\x01\x02".as_slice()));
-    assert_eq!(rt; reader.u16(), Err(BorshError::Short { at: 7 }));
-    assert_eq!(rt; reader.u8(), Err(BorshError::Short { at: 7 }));
+    assert_eq!(rt; reader.u16(), Err(BorshError::Short { at: 2 }));
+    assert_eq!(rt; reader.u8(), Err(BorshError::Short { at: 2 }));
     assert_eq!(rt; reader.take(0), Ok(b"".as_slice()));
 }
 
