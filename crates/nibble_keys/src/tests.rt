@@ -6,15 +6,24 @@ use std::test::Fail;
 #[test]
 fn nibbles_of_keys(rt: HostRuntime) {
     let key = Nibbles::new(&[0x12, 0x34, 0x56]);
-    let near = Nibbles::new(&[0x12, 0x35]);
-    let shifted = Nibbles::new(&[0x23, 0x45, 0x60]);
     assert_eq!(rt; key.len(), 6);
-    assert_eq!(rt; near.len(), 4);
     assert_eq!(rt; (key.at(0), key.at(5)), (1, 6));
     assert_eq!(rt; key.rest(2).len(), 4);
-    assert_eq!(rt; key.common(&near), 3);
-    assert_eq!(rt; key.rest(1).common(&near.rest(1)), 2);
-    assert_eq!(rt; key.rest(1).common(&shifted), 5);
+}
+
+/// How many nibbles two keys begin with together, past so many of each.
+fn expect_common(rt: &impl Abort, key: &[u8], from: u64, other: &[u8], past: u64, common: u64) {
+    let (key, other) = (Nibbles::new(key), Nibbles::new(other));
+    if from <= key.len() && past <= other.len() {
+        assert_eq!(rt; key.rest(from).common(&other.rest(past)), common);
+    }
+}
+
+#[test]
+fn nibbles_in_common(rt: HostRuntime) {
+    expect_common(&rt, &[0x12, 0x34, 0x56], 0, &[0x12, 0x35], 0, 3);
+    expect_common(&rt, &[0x12, 0x34, 0x56], 1, &[0x12, 0x35], 1, 2);
+    expect_common(&rt, &[0x12, 0x34, 0x56], 1, &[0x23, 0x45, 0x60], 0, 5);
 }
 
 #[test]
@@ -56,15 +65,16 @@ fn paths_that_are_read(rt: HostRuntime) {
     expect_path(&rt, &[0x11, 0x23], &[1, 2, 3], false);
 }
 
-fn expect_refused(rt: &impl Abort, bytes: &[u8], error: PackError) {
-    assert_eq!(rt; Packed::read(bytes).err(), Some(error));
-}
-
 #[test]
 fn paths_that_are_refused(rt: HostRuntime) {
-    expect_refused(&rt, &[], PackError::Empty);
-    expect_refused(&rt, &[0x60, 0x61], PackError::Flag);
-    expect_refused(&rt, &[0x81], PackError::Flag);
-    expect_refused(&rt, &[0x21], PackError::Pad);
-    expect_refused(&rt, &[0x0f, 0x61], PackError::Pad);
+    let table: [(&[u8], PackError); 5] = [
+        (&[], PackError::Empty),
+        (&[0x60, 0x61], PackError::Flag),
+        (&[0x81], PackError::Flag),
+        (&[0x21], PackError::Pad),
+        (&[0x0f, 0x61], PackError::Pad),
+    ];
+    for (bytes, error) in table {
+        assert_eq!(rt; Packed::read(bytes).err(), Some(error));
+    }
 }

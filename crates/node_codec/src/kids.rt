@@ -1,8 +1,9 @@
-ghost use Rattle.std.specs.Prelude.{◌≡◌, ◌<◌, ◌≤◌, length, slice_index_or, slice_set};
+ghost use Rattle.std.specs.Prelude.{◌≡◌, ◌<◌, ◌≤◌, length, slice_index_or, slice_set, ⊤};
 ghost use Rattle.byte_model.specs.Node.{child_count};
 ghost use Rattle.node_codec.specs.Meanings.{children_in};
 
 use base_core::Digest;
+use std::alloc::AllocError;
 use std::marker::Model;
 
 /// The children of a branch: at each of the sixteen nibbles a digest, or none.
@@ -18,6 +19,18 @@ impl Model for Kids {
     ghost Value = { List (Option Digest) };
 
     ghost view = { λ kids. kids.digests };
+}
+
+impl Clone for Kids {
+    ghost is_clone = { λ kids copy. copy ≡ kids };
+
+    ghost is_infallible = { λ _. ⊤ };
+
+    fn clone(&self) -> Result<Kids, AllocError> {
+        Ok(Kids {
+            digests: self.digests,
+        })
+    }
 }
 
 impl Kids {

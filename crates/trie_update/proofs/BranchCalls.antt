@@ -341,12 +341,12 @@ module _ (table : Table) (depth : ℕ) (ref : Option ValueRef) (names : ℕ → 
       carries-stopped store {X = X} {Y = Y} old new (visits_below touched 16) (before (merge_visits children (merged_child ref children changes)) (closed digest stated (parts ref children changes))) error
       (subst (λ (v : Visits). Carries {X = X} store old new v (Err error)) visits_are c)
 
-  module _ (old mid : Ledger) (left : Left) (told : ℕ) (is : IsParted depth ref places changes old mid (left, told)) where
+  module _ (old mid : Ledger) (left : Left) (told : ℕ) (is : IsParted names depth ref places changes old mid (left, told)) where
     abbrev value : Option ValueRef
     value = option_map value_of left.value
 
     abbrev kids : ℕ → Kid
-    kids = kid_at left.children.items
+    kids = kid_at names left.children.items
 
     keeps_are : (x : ℕ) → x < 16 → runs x ≢ [] → Keeps (depth + 1) (children x) (runs x)
     keeps_are x small more =

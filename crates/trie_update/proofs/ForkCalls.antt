@@ -317,7 +317,7 @@ module _ (table : Table) (depth count : ℕ) (old : Old) (changes : List Change)
   unfolding place_behind
   places-kid x = over_kid (only_before (top_behind x top) below) (top_behind x top) (run_at changes x) ∙ ap (λ (o : Outcome). known o.top) (places-outcome x)
 
-  module _ (some : changes ≢ []) (few : length changes ≤ most_changes) (old_ledger mid : Ledger) (left : Left) (told : ℕ) (is : IsParted depth ref places changes old_ledger mid (left, told)) where
+  module _ (some : changes ≢ []) (few : length changes ≤ most_changes) (old_ledger mid : Ledger) (left : Left) (told : ℕ) (is : IsParted (λ x. None) depth ref places changes old_ledger mid (left, told)) where
     pub fork-end-keeps : TopKeeps depth below top changes
     unfolding place_behind
     fork-end-keeps = fork-keeps below changes depth top over_it fits.stands (λ x small. over-keeps (depth + 1) below (top_behind x top) (run_at changes x) (is.keeps x small))
@@ -331,19 +331,19 @@ module _ (table : Table) (depth count : ℕ) (old : Old) (changes : List Change)
     value_is : option_map value_of left.value ≡ ref_after (ref_here top) change
     value_is = is.value ∙ ap (λ (r : Option ValueRef). ref_after r change) ref_is
 
-    kids_are : (x : ℕ) → x < 16 → kid_at left.children.items x ≡ model_kids x
+    kids_are : (x : ℕ) → x < 16 → kid_at (λ x. None) left.children.items x ≡ model_kids x
     kids_are x small = is.kids x small ∙ places-kid x
 
-    pub fork-end-can : CanJoin (option_map value_of left.value) (kid_at left.children.items) 0
+    pub fork-end-can : CanJoin (option_map value_of left.value) (kid_at (λ x. None) left.children.items) 0
     fork-end-can =
-        subst (λ (r : Option ValueRef). CanJoin r (kid_at left.children.items) 0) (sym value_is)
-        (can-join-agree (ref_after (ref_here top) change) (kid_at left.children.items) model_kids 0 kids_are (fork-can depth below top changes over_it fits below_it some few fork-end-keeps))
+        subst (λ (r : Option ValueRef). CanJoin r (kid_at (λ x. None) left.children.items) 0) (sym value_is)
+        (can-join-agree (ref_after (ref_here top) change) (kid_at (λ x. None) left.children.items) model_kids 0 kids_are (fork-can depth below top changes over_it fits below_it some few fork-end-keeps))
 
     abbrev whole : Joint
     whole = joint (ref_after (ref_here top) change) model_kids 0
 
-    joint_is : joint (option_map value_of left.value) (kid_at left.children.items) 0 ≡ whole
-    joint_is = ap (λ (r : Option ValueRef). joint r (kid_at left.children.items) 0) value_is ∙ joint-agree (ref_after (ref_here top) change) (kid_at left.children.items) model_kids 0 kids_are
+    joint_is : joint (option_map value_of left.value) (kid_at (λ x. None) left.children.items) 0 ≡ whole
+    joint_is = ap (λ (r : Option ValueRef). joint r (kid_at (λ x. None) left.children.items) 0) value_is ∙ joint-agree (ref_after (ref_here top) change) (kid_at (λ x. None) left.children.items) model_kids 0 kids_are
 
     told_is : told ≡ top_stated below top changes
     unfolding place_behind
@@ -368,8 +368,8 @@ module _ (table : Table) (depth count : ℕ) (old : Old) (changes : List Change)
         (ap₂ (λ (r : Option ValueRef) (n : ℕ). disappearing r change + n) ref_is (sum_below-agree _ _ 16 (λ x small. ap (λ (o : Outcome). o.gone) (places-outcome x))))
         is.adds
 
-    pub fork-end-placed : (n : ℕ) (new : Ledger) (placed : Placed) → length changes ≡ n → top_of_sub placed.sub ≡ (joint (option_map value_of left.value) (kid_at left.children.items) 0).top → placed.stated ≡ told
-        → Adds mid new (joint (option_map value_of left.value) (kid_at left.children.items) 0).made [] 0 0 → IsPlaced outcome (top_stated below top changes) n old_ledger new placed
+    pub fork-end-placed : (n : ℕ) (new : Ledger) (placed : Placed) → length changes ≡ n → top_of_sub placed.sub ≡ (joint (option_map value_of left.value) (kid_at (λ x. None) left.children.items) 0).top → placed.stated ≡ told
+        → Adds mid new (joint (option_map value_of left.value) (kid_at (λ x. None) left.children.items) 0).made [] 0 0 → IsPlaced outcome (top_stated below top changes) n old_ledger new placed
     fork-end-placed n new placed long is_top is_told adds =
         let here : Adds mid new whole.made [] 0 0 = subst (λ (j : Joint). Adds mid new j.made [] 0 0) joint_is adds in
         let both = adds-then old_ledger mid new (value_made change ++ joined_below (λ x. (parted laid_child top changes x).made) 16) (value_lost (ref_here top) change ++ joined_below (λ x. (parted laid_child top changes x).lost) 16) outcome.fresh outcome.gone whole.made [] 0 0 adds_is here in

@@ -1,5 +1,5 @@
 -- What has become of what stood behind a nibble, by the call that was made there.
-use Rattle.std.proofs.Common.{◌≡◌, ℕ, ◌≤◌, ◌==◌, true, false, List, [], ◌∷◌, length, Result, refl, sym, ◌∙◌, ap, subst, arith}
+use Rattle.std.proofs.Common.{◌≡◌, ℕ, ◌≤◌, ◌==◌, true, false, List, [], ◌∷◌, length, Option, Result, refl, sym, ◌∙◌, ap, subst, arith}
 use Rattle.trie_model.proofs.Rests.{equal_of_test}
 use Rattle.trie_model.specs.Root.{Table}
 use Rattle.visit_model.specs.Seen.{seen_at, stated_usage}
@@ -36,10 +36,10 @@ some-changes (x ∷ xs) e = omega arith
 
 -- ---- where no key is changed
 
-pub child-untouched : (depth : ℕ) (p : Place) (changes : List Change) (ledger : Ledger) (new : Child) → changes ≡ [] → kid_of new ≡ place_kid p [] → IsChild depth p changes ledger ledger (new, 0)
-child-untouched depth p changes ledger new none is =
+pub child-untouched : (name : Option (List ℕ)) (depth : ℕ) (p : Place) (changes : List Change) (ledger : Ledger) (new : Child) → changes ≡ [] → kid_of name new ≡ place_kid p [] → IsChild name depth p changes ledger ledger (new, 0)
+child-untouched name depth p changes ledger new none is =
     let nothing = untouched-adds p in
-    subst (λ (cs : List Change). IsChild depth p cs ledger ledger (new, 0)) (sym none) (record {
+    subst (λ (cs : List Change). IsChild name depth p cs ledger ledger (new, 0)) (sym none) (record {
       kid = is;
       stated = sym (untouched-stated p);
       adds = adds-same ledger ledger [] [] 0 0 (place_outcome p []).made (place_outcome p []).lost (place_outcome p []).fresh (place_outcome p []).gone (sym nothing.made) (sym nothing.lost) (sym nothing.fresh) (sym nothing.gone) (adds-none ledger);
@@ -50,9 +50,9 @@ child-untouched depth p changes ledger new none is =
 -- ---- where some are
 
 module _ (depth : ℕ) (p : Place) (changes : List Change) (n : ℕ) (visits : Visits) (stated : ℕ) (outcome : Outcome) (touched : IsTouched p changes visits stated outcome) (long : length changes ≡ n) where
-  pub child-placed : (old new : Ledger) (placed : Placed) → IsPlaced outcome stated n old new placed → PlaceKeeps depth p changes → (child : Child × ℕ) → kid_of child.0 ≡ known (top_of_sub placed.sub) → child.1 ≡ placed.stated → IsChild depth p changes old new child
-  child-placed old new placed is keeps child kid_is stated_is = record {
-    kid = kid_is ∙ ap known is.top ∙ sym touched.kid_is;
+  pub child-placed : (name : Option (List ℕ)) (old new : Ledger) (placed : Placed) → IsPlaced outcome stated n old new placed → PlaceKeeps depth p changes → (child : Child × ℕ) → ((m : Option (List ℕ)) → kid_of m child.0 ≡ known (top_of_sub placed.sub)) → child.1 ≡ placed.stated → IsChild name depth p changes old new child
+  child-placed name old new placed is keeps child kid_is stated_is = record {
+    kid = kid_is name ∙ ap known is.top ∙ sym touched.kid_is;
     stated = stated_is ∙ is.stated ∙ sym touched.stated_is;
     adds = subst (λ (o : Outcome). Adds old new o.made o.lost o.fresh o.gone) (sym touched.outcome_is) is.adds;
     counts = record { fresh = (let f = is.counts.fresh in omega arith); gone = (let f = is.counts.gone in omega arith) };

@@ -12,7 +12,7 @@ use Rattle.update_model.specs.Joins.{Kid, named, known, is_there, there, kid_usa
 use Rattle.update_model.specs.Updates.{merged_kids, merged_lost, top_seen, lost_alone}
 use Rattle.trie_update.specs.declared.joining.Child.{Child}
 use Rattle.trie_update.specs.Merges.{IsFound, if_named, lone_among, lone_named, seen_kid, seen_kids, MergedStands}
-use Rattle.trie_update.specs.Subs.{kid_at, kid_of, CanJoin, IsKnown, KidStands}
+use Rattle.trie_update.specs.Subs.{child_at, kid_at, kid_of, CanJoin, IsKnown, KidStands}
 use Rattle.update_model.specs.Sound.{StandsAt}
 use Rattle.byte_model.proofs.Below.{sum_below-agree}
 use Rattle.change_model.proofs.Along.{numbers_below-agree}
@@ -63,52 +63,52 @@ module _ {X : Type 0} (f : X → ValueRef) (o : Option X) (kids : ℕ → Kid) (
 apart : (y z : ℕ) → (y == z) ≡ false → y ≢ z
 apart y z t e = absurd (false≢true (sym t ∙ ap (λ w. y == w) (sym e) ∙ same_nibble y))
 
-kid_at-set_same : (children : List Child) (x : ℕ) (new : Child) → x < length children → kid_at (set children x new) x ≡ kid_of new
-unfolding kid_at
-kid_at-set_same [] x new h = absurd (omega arith)
-kid_at-set_same (first ∷ children) zero new h = refl
-kid_at-set_same (first ∷ children) (suc x) new h = kid_at-set_same children x new (omega arith)
+child_at-set_same : (children : List Child) (x : ℕ) (new : Child) → x < length children → child_at (set children x new) x ≡ new
+unfolding child_at
+child_at-set_same [] x new h = absurd (omega arith)
+child_at-set_same (first ∷ children) zero new h = refl
+child_at-set_same (first ∷ children) (suc x) new h = child_at-set_same children x new (omega arith)
 
-kid_at-set_other : (children : List Child) (x y : ℕ) (new : Child) → y ≢ x → kid_at (set children x new) y ≡ kid_at children y
-unfolding kid_at
-kid_at-set_other [] x y new other = refl
-kid_at-set_other (first ∷ children) zero zero new other = absurd (other refl)
-kid_at-set_other (first ∷ children) zero (suc y) new other = refl
-kid_at-set_other (first ∷ children) (suc x) zero new other = refl
-kid_at-set_other (first ∷ children) (suc x) (suc y) new other = kid_at-set_other children x y new (λ e. other (ap suc e))
+child_at-set_other : (children : List Child) (x y : ℕ) (new : Child) → y ≢ x → child_at (set children x new) y ≡ child_at children y
+unfolding child_at
+child_at-set_other [] x y new other = refl
+child_at-set_other (first ∷ children) zero zero new other = absurd (other refl)
+child_at-set_other (first ∷ children) zero (suc y) new other = refl
+child_at-set_other (first ∷ children) (suc x) zero new other = refl
+child_at-set_other (first ∷ children) (suc x) (suc y) new other = child_at-set_other children x y new (λ e. other (ap suc e))
 
-module _ (table : Table) (depth : ℕ) (ref : Option ValueRef) (children : List Child) (x : ℕ) (digest : Digest) (found : IsFound ref (kid_at children) x digest) where
-  pub seen-found : seen_kid table depth (kid_at children x) ≡ seen_at table depth false digest.0
+module _ (names : ℕ → Option (List ℕ)) (table : Table) (depth : ℕ) (ref : Option ValueRef) (children : List Child) (x : ℕ) (digest : Digest) (found : IsFound ref (kid_at names children) x digest) where
+  pub seen-found : seen_kid table depth (kid_at names children x) ≡ seen_at table depth false digest.0
   unfolding seen_kid
   seen-found = ap (seen_kid table depth) found.name
 
-  pub visits-found : merge_visits (seen_kids table depth (kid_at children)) (lone_named ref (kid_at children)) ≡ visit_alone (seen_at table depth false digest.0)
-  visits-found = ap (λ (m : Option ℕ). merge_visits (seen_kids table depth (kid_at children)) m) found.lone ∙ ap visit_alone seen-found
+  pub visits-found : merge_visits (seen_kids table depth (kid_at names children)) (lone_named ref (kid_at names children)) ≡ visit_alone (seen_at table depth false digest.0)
+  visits-found = ap (λ (m : Option ℕ). merge_visits (seen_kids table depth (kid_at names children)) m) found.lone ∙ ap visit_alone seen-found
 
-  pub usage-found : merge_usage (seen_kids table depth (kid_at children)) (lone_named ref (kid_at children)) ≡ stated_usage (seen_at table depth false digest.0)
-  usage-found = ap (λ (m : Option ℕ). merge_usage (seen_kids table depth (kid_at children)) m) found.lone ∙ ap stated_usage seen-found
+  pub usage-found : merge_usage (seen_kids table depth (kid_at names children)) (lone_named ref (kid_at names children)) ≡ stated_usage (seen_at table depth false digest.0)
+  usage-found = ap (λ (m : Option ℕ). merge_usage (seen_kids table depth (kid_at names children)) m) found.lone ∙ ap stated_usage seen-found
 
-  pub lost-found : merged_lost (lone_named ref (kid_at children)) (seen_kids table depth (kid_at children)) ≡ lost_alone (seen_at table depth false digest.0)
-  lost-found = ap (λ (m : Option ℕ). merged_lost m (seen_kids table depth (kid_at children))) found.lone ∙ ap lost_alone seen-found
+  pub lost-found : merged_lost (lone_named ref (kid_at names children)) (seen_kids table depth (kid_at names children)) ≡ lost_alone (seen_at table depth false digest.0)
+  lost-found = ap (λ (m : Option ℕ). merged_lost m (seen_kids table depth (kid_at names children))) found.lone ∙ ap lost_alone seen-found
 
-  pub stands-found : StandsAt depth (top_seen (seen_at table depth false digest.0)) → MergedStands depth (lone_named ref (kid_at children)) (seen_kids table depth (kid_at children))
-  stands-found h = subst (λ (m : Option ℕ). MergedStands depth m (seen_kids table depth (kid_at children))) (sym found.lone) (subst (λ (s : Seen). StandsAt depth (top_seen s)) (sym seen-found) h)
+  pub stands-found : StandsAt depth (top_seen (seen_at table depth false digest.0)) → MergedStands depth (lone_named ref (kid_at names children)) (seen_kids table depth (kid_at names children))
+  stands-found h = subst (λ (m : Option ℕ). MergedStands depth m (seen_kids table depth (kid_at names children))) (sym found.lone) (subst (λ (s : Seen). StandsAt depth (top_seen s)) (sym seen-found) h)
 
   -- the new child, whose top is that of what is seen there
-  pub kids-put : (top : Top) (new : Child) → x < length children → kid_of new ≡ known top → top ≡ top_seen (seen_at table depth false digest.0)
-      → (y : ℕ) → kid_at (set children x new) y ≡ merged_kids (lone_named ref (kid_at children)) (seen_kids table depth (kid_at children)) (kid_at children) y
+  pub kids-put : (top : Top) (new : Child) → x < length children → kid_of (names x) new ≡ known top → top ≡ top_seen (seen_at table depth false digest.0)
+      → (y : ℕ) → kid_at names (set children x new) y ≡ merged_kids (lone_named ref (kid_at names children)) (seen_kids table depth (kid_at names children)) (kid_at names children) y
   kids-put top new inside is_known is_top y =
-      elim (y == x) as (λ b. (y == x) ≡ b → kid_at (set children x new) y ≡ (if b then known (top_seen (seen_kids table depth (kid_at children) y)) else kid_at children y)) [
+      elim (y == x) as (λ b. (y == x) ≡ b → kid_at names (set children x new) y ≡ (if b then known (top_seen (seen_kids table depth (kid_at names children) y)) else kid_at names children y)) [
         | true ↦ λ t. (let same = equal_of_test y x t in
-            subst (λ z. kid_at (set children x new) z ≡ known (top_seen (seen_kids table depth (kid_at children) z))) (sym same)
-            (kid_at-set_same children x new inside ∙ is_known ∙ ap known is_top ∙ ap (λ (s : Seen). known (top_seen s)) (sym seen-found)))
-        | false ↦ λ t. kid_at-set_other children x y new (apart y x t)
+            subst (λ z. kid_at names (set children x new) z ≡ known (top_seen (seen_kids table depth (kid_at names children) z))) (sym same)
+            (ap (kid_of (names x)) (child_at-set_same children x new inside) ∙ is_known ∙ ap known is_top ∙ ap (λ (s : Seen). known (top_seen s)) (sym seen-found)))
+        | false ↦ λ t. ap (kid_of (names y)) (child_at-set_other children x y new (apart y x t))
       ] refl
-      ∙ ap (λ (m : Option ℕ). merged_kids m (seen_kids table depth (kid_at children)) (kid_at children) y) (sym found.lone)
+      ∙ ap (λ (m : Option ℕ). merged_kids m (seen_kids table depth (kid_at names children)) (kid_at names children) y) (sym found.lone)
 
 -- where it was not found
-pub kids-kept : (table : Table) (depth : ℕ) (ref : Option ValueRef) (children : List Child) → lone_named ref (kid_at children) ≡ None → (y : ℕ) → kid_at children y ≡ merged_kids (lone_named ref (kid_at children)) (seen_kids table depth (kid_at children)) (kid_at children) y
-kids-kept table depth ref children none y = ap (λ (m : Option ℕ). merged_kids m (seen_kids table depth (kid_at children)) (kid_at children) y) (sym none)
+pub kids-kept : (names : ℕ → Option (List ℕ)) (table : Table) (depth : ℕ) (ref : Option ValueRef) (children : List Child) → lone_named ref (kid_at names children) ≡ None → (y : ℕ) → kid_at names children y ≡ merged_kids (lone_named ref (kid_at names children)) (seen_kids table depth (kid_at names children)) (kid_at names children) y
+kids-kept names table depth ref children none y = ap (λ (m : Option ℕ). merged_kids m (seen_kids table depth (kid_at names children)) (kid_at names children) y) (sym none)
 
 -- ---- what can be joined
 

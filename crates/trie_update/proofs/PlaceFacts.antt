@@ -17,12 +17,11 @@ use Rattle.trie_shape.specs.Runs.{goes_on}
 use Rattle.trie_shape.specs.Shows.{under_of}
 use Rattle.update_model.specs.Sound.{StandsAt}
 use Rattle.update_model.specs.Tops.{Top, empty, leaf, branch, extension, lowered, top_behind}
-use Rattle.update_model.specs.Joins.{Kid, known, named}
+use Rattle.update_model.specs.Joins.{known}
 use Rattle.update_model.specs.Updates.{Outcome, kid_kept, laid, updated}
 use Rattle.update_model.proofs.TopsBelow.{stands-top_behind}
 use Rattle.trie_update.specs.declared.old.Old.{Old}
 use Rattle.trie_update.specs.declared.old.Old.TheVariants.{Nothing, Leaf, Extension}
-use Rattle.trie_update.specs.declared.former.Former.{Former}
 use Rattle.trie_update.specs.declared.former.Former.TheVariants as former
 use Rattle.trie_update.specs.Olds.{IsBehind, sub_of}
 use Rattle.trie_update.specs.Places.{Place, of_branch, over, FitsTop, MostTop, NoBranch, PlaceKeeps, TopKeeps, kid_place, old_past, only_before, over_behind, place_kid, place_of, place_outcome, place_stated, place_visits, seen_past, top_stated, top_visits}
@@ -175,15 +174,16 @@ unfolding PlaceKeeps
 untouched-keeps depth (of_branch child) = λ some. absurd (some refl)
 untouched-keeps depth (over below top) = top-untouched depth below top
 
--- the child that stood behind a nibble, where no key is changed
-abbrev pub kid_before : Former → Kid
-kid_before (former.Known old) = known (old_past 0 old)
-kid_before (former.Named digest) = named digest.0
-
-pub untouched-kid : (table : Table) (depth : ℕ) (stood : Former) → kid_before stood ≡ place_kid (place_of table depth stood) []
+-- what stood behind a nibble, where no key is changed
+pub untouched-known : (table : Table) (depth : ℕ) (old : Old) → known (old_past 0 old) ≡ place_kid (place_of table depth (former.Known old)) []
 unfolding place_kid place_of
-untouched-kid table depth (former.Known old) = refl
-untouched-kid table depth (former.Named digest) = sym (ap kid_kept (digest_of-seen_at table depth false digest.0))
+untouched-known table depth old = refl
+
+-- a child of a branch
+pub untouched-kept : (table : Table) (depth : ℕ) (name : Option (List ℕ)) → kid_kept name ≡ place_kid (kid_place table depth name) []
+unfolding place_kid
+untouched-kept table depth None = refl
+untouched-kept table depth (Some digest) = sym (ap kid_kept (digest_of-seen_at table depth false digest))
 
 -- ---- where keys are changed
 

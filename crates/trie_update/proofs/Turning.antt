@@ -23,7 +23,7 @@ use Rattle.trie_update.specs.Carries.{Carries}
 use Rattle.trie_update.specs.ChangesAt.{AreChangesAt, IsLeft, Lent, changes_at, run_of, value_lent}
 use Rattle.trie_update.specs.Places.{Place, PlaceKeeps, place_kid, place_outcome, place_stated, place_visits}
 use Rattle.trie_update.specs.Placed.{AddsBelow, IsChild, IsParted, run_at}
-use Rattle.trie_update.specs.Subs.{kid_at, kid_of}
+use Rattle.trie_update.specs.Subs.{child_at, kid_at, kid_of}
 use Rattle.trie_update.proofs.Adding.{adds-then, adds-same}
 use Rattle.trie_update.proofs.Carrying.{carries-then, carries-none, carries-ok, carries-stopped, carries-late, carries-error}
 use Rattle.trie_update.proofs.Turns.{run_below, run_changes, run_left, run}
@@ -43,16 +43,16 @@ length-parts (suc n) (x ∷ xs) = let further = length-parts n xs in omega arith
 
 -- ---- children, one after the other
 
-kid_at-before : (children : List Child) (new : Child) (y : ℕ) → y < length children → kid_at (children ++ new ∷ []) y ≡ kid_at children y
-unfolding kid_at
-kid_at-before [] new y h = absurd (omega arith)
-kid_at-before (child ∷ children) new zero h = refl
-kid_at-before (child ∷ children) new (suc y) h = kid_at-before children new y (omega arith)
+child_at-before : (children : List Child) (new : Child) (y : ℕ) → y < length children → child_at (children ++ new ∷ []) y ≡ child_at children y
+unfolding child_at
+child_at-before [] new y h = absurd (omega arith)
+child_at-before (child ∷ children) new zero h = refl
+child_at-before (child ∷ children) new (suc y) h = child_at-before children new y (omega arith)
 
-kid_at-last : (children : List Child) (new : Child) → kid_at (children ++ new ∷ []) (length children) ≡ kid_of new
-unfolding kid_at
-kid_at-last [] new = refl
-kid_at-last (child ∷ children) new = kid_at-last children new
+child_at-last : (children : List Child) (new : Child) → child_at (children ++ new ∷ []) (length children) ≡ new
+unfolding child_at
+child_at-last [] new = refl
+child_at-last (child ∷ children) new = child_at-last children new
 
 -- ---- visits that broke off behind some nibble
 
@@ -66,10 +66,10 @@ carries-below {X = X} {Y = Y} store old new f i (suc n) error h c = elim (cases_
 
 -- ---- what is gathered
 
-pub record IsGathered {S : Type 0} (store : Store S) (depth : ℕ) (former : Option ValueRef) (places : ℕ → Place) (whole rest : List Lent) (nibble : ℕ) (children : List Child) (told : ℕ) (first now : S) (old new : Ledger) : Type 0 where
+pub record IsGathered {S : Type 0} (store : Store S) (names : ℕ → Option (List ℕ)) (depth : ℕ) (former : Option ValueRef) (places : ℕ → Place) (whole rest : List Lent) (nibble : ℕ) (children : List Child) (told : ℕ) (first now : S) (old new : Ledger) : Type 0 where
   pub left : IsLeft nibble depth whole rest
   pub count : length children ≡ nibble
-  pub kids : (y : ℕ) → y < nibble → kid_at children y ≡ place_kid (places y) (run_at (changes_at depth whole) y)
+  pub kids : (y : ℕ) → y < nibble → kid_at names children y ≡ place_kid (places y) (run_at (changes_at depth whole) y)
   pub stated : told ≡ min (sum_below (λ x. place_stated (places x) (run_at (changes_at depth whole) x)) nibble) (2 ^ 64 - 1)
   pub adds : AddsBelow former places (changes_at depth whole) nibble old new
   pub fresh : new.fresh + length rest ≤ old.fresh + length whole
@@ -106,12 +106,12 @@ counts_here former (Some value) whole rest all fewer =
 adds_here : (former : Option ValueRef) (change : Option (Option (List ℕ))) (old new : Ledger) → IsNamed old → GrowsBy old new former change → IsNamed new → Adds old new (value_made change) (value_lost former change) (appearing former change) (disappearing former change)
 adds_here former change old new named grows names = record { grows = grows; named = λ h. names }
 
-pub gathered-none : {S : Type 0} (store : Store S) (depth : ℕ) (former : Option ValueRef) (places : ℕ → Place) (whole rest : List Lent) (first : S) (old new : Ledger) (here : HereLent)
+pub gathered-none : {S : Type 0} (store : Store S) (names : ℕ → Option (List ℕ)) (depth : ℕ) (former : Option ValueRef) (places : ℕ → Place) (whole rest : List Lent) (first : S) (old new : Ledger) (here : HereLent)
     → option_map value_lent here ≡ found_at [] (changes_at depth whole) → IsLeft 0 depth whole rest → IfSome here (λ value. length rest < length whole)
     → IsNamed old → GrowsBy old new former (option_map value_lent here) → IsNamed new → store.alike first first
-    → IsGathered store depth former places whole rest 0 [] 0 first first old new
+    → IsGathered store names depth former places whole rest 0 [] 0 first first old new
 unfolding sum_below joined_below visits_below
-gathered-none store depth former places whole rest first old new here value left fewer named grows names same =
+gathered-none store names depth former places whole rest first old new here value left fewer named grows named_then same =
     let change = option_map value_lent here in
     let counts = counts_here former here whole rest left.fewer fewer in
     let fresh = grows.fresh in
@@ -125,18 +125,18 @@ gathered-none store depth former places whole rest first old new here value left
           (value_made (change_at [] (changes_at depth whole)) ++ []) (value_lost former (change_at [] (changes_at depth whole)) ++ []) (appearing former (change_at [] (changes_at depth whole)) + 0) (disappearing former (change_at [] (changes_at depth whole)) + 0)
           (ap value_made value ∙ sym (append-nil (value_made (change_at [] (changes_at depth whole))))) (ap (value_lost former) value ∙ sym (append-nil (value_lost former (change_at [] (changes_at depth whole)))))
           (let e = ap (appearing former) value in omega arith) (let e = ap (disappearing former) value in omega arith)
-          (adds_here former change old new named grows names);
+          (adds_here former change old new named grows named_then);
       fresh = (let c = counts.0 in omega arith);
       gone = (let c = counts.1 in omega arith);
-      named = names;
+      named = named_then;
       keeps = λ y h. absurd (omega arith);
       carries = carries-none store first 0 same;
     }
 
 -- ---- one turn
 
-module _ {S : Type 0} (store : Store S) (depth : ℕ) (former : Option ValueRef) (places : ℕ → Place) (whole rest : List Lent) (nibble : ℕ) (children : List Child) (told : ℕ) (first now : S) (old new : Ledger)
-    (so_far : IsGathered store depth former places whole rest nibble children told first now old new)
+module _ {S : Type 0} (store : Store S) (names : ℕ → Option (List ℕ)) (depth : ℕ) (former : Option ValueRef) (places : ℕ → Place) (whole rest : List Lent) (nibble : ℕ) (children : List Child) (told : ℕ) (first now : S) (old new : Ledger)
+    (so_far : IsGathered store names depth former places whole rest nibble children told first now old new)
     (front back : List Lent) (n : ℕ) (is : n ≡ run_of nibble (changes_at depth rest)) (front_is : front ≡ take n rest) (back_is : back ≡ drop n rest) where
   front_run : front ≡ take (run_of nibble (changes_at depth rest)) rest
   front_run = front_is ∙ ap (λ k. take k rest) is
@@ -180,7 +180,7 @@ module _ {S : Type 0} (store : Store S) (depth : ℕ) (former : Option ValueRef)
         let all : Carries {X = X} store first later (visits_below visits_of (suc nibble)) (Err error) = carries-then store {X = ℕ} {Y = X} onward first now later (visits_below visits_of nibble) (visits_of nibble) 0 (Err error) so_far.carries here in
         carries-below {X = X} {Y = Y} store first later visits_of (suc nibble) 16 error small all
 
-    module _ (later : S) (after : Ledger) (child : Child × ℕ) (child_is : IsChild (depth + 1) place (changes_at (depth + 1) front) new after child) (onward : (a b c : S) → store.alike a b → store.alike b c → store.alike a c)
+    module _ (later : S) (after : Ledger) (child : Child × ℕ) (child_is : IsChild (names nibble) (depth + 1) place (changes_at (depth + 1) front) new after child) (onward : (a b c : S) → store.alike a b → store.alike b c → store.alike a c)
         (carried : Carries {X = Child × ℕ} store now later (place_visits place (changes_at (depth + 1) front)) (Ok child)) where
       all_visits : Carries {X = ℕ} store first later (visits_below visits_of (nibble + 1)) (Ok 0)
       unfolding visits_below
@@ -217,10 +217,10 @@ module _ {S : Type 0} (store : Store S) (depth : ℕ) (former : Option ValueRef)
           (let more = sum_below-more (λ x. (outcome_of x).gone) nibble in omega arith)
           both
 
-      pub turn-more : (more : List Child) → more ≡ children ++ child.0 ∷ [] → nibble < 16 → IsGathered store depth former places whole back (nibble + 1) more (min (told + child.1) (2 ^ 64 - 1)) first later old after
+      pub turn-more : (more : List Child) → more ≡ children ++ child.0 ∷ [] → nibble < 16 → IsGathered store names depth former places whole back (nibble + 1) more (min (told + child.1) (2 ^ 64 - 1)) first later old after
       unfolding run
       turn-more more is_more small =
-          let whole_kid : kid_of child.0 ≡ place_kid (places nibble) (run_at (changes_at depth whole) nibble) = child_is.kid ∙ ap₂ (λ (p : Place) (cs : List Change). place_kid p cs) place_is turn-run in
+          let whole_kid : kid_of (names nibble) child.0 ≡ place_kid (places nibble) (run_at (changes_at depth whole) nibble) = child_is.kid ∙ ap₂ (λ (p : Place) (cs : List Change). place_kid p cs) place_is turn-run in
           let long = length-append children (child.0 ∷ []) in
           let parts = turn-parts in
           let counts = child_is.counts in
@@ -230,10 +230,10 @@ module _ {S : Type 0} (store : Store S) (depth : ℕ) (former : Option ValueRef)
             count = (let all = ap length is_more in let so = so_far.count in omega arith);
             kids = λ y h. elim (cases_lt y nibble) [
               | inl less ↦ (let inside : y < length children = (let so = so_far.count in omega arith) in
-                  ap (λ (cs : List Child). kid_at cs y) is_more ∙ kid_at-before children child.0 y inside ∙ so_far.kids y less)
+                  ap (λ (cs : List Child). kid_at names cs y) is_more ∙ ap (kid_of (names y)) (child_at-before children child.0 y inside) ∙ so_far.kids y less)
               | inr most ↦ (let same : nibble ≡ y = omega arith in
-                  subst (λ z. kid_at more z ≡ place_kid (places z) (run_at (changes_at depth whole) z)) same
-                  (ap (λ (cs : List Child). kid_at cs nibble) is_more ∙ ap (kid_at (children ++ child.0 ∷ [])) (sym so_far.count) ∙ kid_at-last children child.0 ∙ whole_kid))
+                  subst (λ z. kid_at names more z ≡ place_kid (places z) (run_at (changes_at depth whole) z)) same
+                  (ap (kid_of (names nibble)) (ap (λ (cs : List Child). child_at cs nibble) is_more ∙ ap (child_at (children ++ child.0 ∷ [])) (sym so_far.count) ∙ child_at-last children child.0) ∙ whole_kid))
             ];
             stated = (let used = child_is.stated ∙ ap₂ (λ (p : Place) (cs : List Change). place_stated p cs) place_is turn-run in let so = so_far.stated in let more_sum = sum_below-more (λ x. place_stated (places x) (run_at (changes_at depth whole) x)) nibble in omega arith);
             adds = all_adds;
@@ -251,16 +251,16 @@ module _ {S : Type 0} (store : Store S) (depth : ℕ) (former : Option ValueRef)
 
 -- ---- after the last turn
 
-module _ {S : Type 0} (store : Store S) (depth : ℕ) (former : Option ValueRef) (places : ℕ → Place) (whole rest : List Lent) (nibble : ℕ) (children : List Child) (told : ℕ) (first now : S) (old new : Ledger)
-    (all : IsGathered store depth former places whole rest nibble children told first now old new) (done : nibble ≡ 16) where
+module _ {S : Type 0} (store : Store S) (names : ℕ → Option (List ℕ)) (depth : ℕ) (former : Option ValueRef) (places : ℕ → Place) (whole rest : List Lent) (nibble : ℕ) (children : List Child) (told : ℕ) (first now : S) (old new : Ledger)
+    (all : IsGathered store names depth former places whole rest nibble children told first now old new) (done : nibble ≡ 16) where
   pub end-carries : {Y : Type 0} (y : Y) → Carries store first now (visits_below (λ x. place_visits (places x) (run_at (changes_at depth whole) x)) 16) (Ok y)
   end-carries {Y} y = subst (λ k. Carries {X = Y} store first now (visits_below (λ x. place_visits (places x) (run_at (changes_at depth whole) x)) k) (Ok y)) done (carries-ok store {X = ℕ} {Y = Y} first now (visits_below (λ x. place_visits (places x) (run_at (changes_at depth whole) x)) nibble) 0 y all.carries)
 
-  pub end-parted : (left : Left) → left.children.items ≡ children → option_map value_of left.value ≡ ref_after former (change_at [] (changes_at depth whole)) → IsParted depth former places (changes_at depth whole) old new (left, told)
+  pub end-parted : (left : Left) → left.children.items ≡ children → option_map value_of left.value ≡ ref_after former (change_at [] (changes_at depth whole)) → IsParted names depth former places (changes_at depth whole) old new (left, told)
   end-parted left is_children is_value = record {
     value = is_value;
     sixteen = ap length is_children ∙ all.count ∙ done;
-    kids = λ x small. ap (λ (cs : List Child). kid_at cs x) is_children ∙ all.kids x (omega arith);
+    kids = λ x small. ap (λ (cs : List Child). kid_at names cs x) is_children ∙ all.kids x (omega arith);
     stated = all.stated ∙ ap (λ k. min (sum_below (λ x. place_stated (places x) (run_at (changes_at depth whole) x)) k) (2 ^ 64 - 1)) done;
     adds = subst (λ k. AddsBelow former places (changes_at depth whole) k old new) done all.adds;
     counts = record {

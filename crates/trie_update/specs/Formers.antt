@@ -1,5 +1,6 @@
 -- A branch as it was read.
-use Rattle.std.specs.Prelude.{◌≡◌, ◌≤◌, IfSome, option_map}
+use Rattle.std.specs.Prelude.{◌≡◌, ℕ, ◌≤◌, List, Option, None, Some, IfSome, option_map}
+use Rattle.std.specs.Borrow.{Bor}
 use Rattle.sha2.specs.Sha256.{sha256}
 use Rattle.byte_model.specs.Node.{branch, longest_value, spelled}
 use Rattle.change_model.specs.Visits.{branch_cost, most_usage}
@@ -12,3 +13,8 @@ pub record IsFormer (former : FormerBranch) : Type 0 where
   pub own : former.own ≡ branch_cost (option_map value_of former.value.now)
   pub most : former.stated ≤ most_usage
   pub small : IfSome former.value.now (λ v. v.length ≤ longest_value)
+
+-- the names of its children, if there was one
+abbrev pub names_of : Option (Bor FormerBranch) → ℕ → Option (List ℕ)
+names_of None = λ x. None
+names_of (Some former) = children_in former.now.kids.now

@@ -78,13 +78,13 @@ abbrev pub MergedStands : ℕ → Option ℕ → (ℕ → Seen) → Type 0
 MergedStands depth None seen = ⊤
 MergedStands depth (Some x) seen = StandsAt depth (top_seen (seen x))
 
-pub record IsMerged (table : Table) (depth : ℕ) (left : Left) (old new : Ledger) (merged : Left × ℕ) : Type 0 where
+pub record IsMerged (names : ℕ → Option (List ℕ)) (table : Table) (depth : ℕ) (left : Left) (old new : Ledger) (merged : Left × ℕ) : Type 0 where
   pub value : merged.0.value ≡ left.value
   pub sixteen : length merged.0.children.items ≡ 16
-  pub kids : (x : ℕ) → x < 16 → kid_at merged.0.children.items x ≡ merged_kids (lone_named (option_map value_of left.value) (kid_at left.children.items)) (seen_kids table depth (kid_at left.children.items)) (kid_at left.children.items) x
-  pub stated : merged.1 ≡ merge_usage (seen_kids table depth (kid_at left.children.items)) (lone_named (option_map value_of left.value) (kid_at left.children.items))
-  pub adds : Adds old new [] (merged_lost (lone_named (option_map value_of left.value) (kid_at left.children.items)) (seen_kids table depth (kid_at left.children.items))) 0 0
-  pub stands : MergedStands depth (lone_named (option_map value_of left.value) (kid_at left.children.items)) (seen_kids table depth (kid_at left.children.items))
+  pub kids : (x : ℕ) → x < 16 → kid_at names merged.0.children.items x ≡ merged_kids (lone_named (option_map value_of left.value) (kid_at names left.children.items)) (seen_kids table depth (kid_at names left.children.items)) (kid_at names left.children.items) x
+  pub stated : merged.1 ≡ merge_usage (seen_kids table depth (kid_at names left.children.items)) (lone_named (option_map value_of left.value) (kid_at names left.children.items))
+  pub adds : Adds old new [] (merged_lost (lone_named (option_map value_of left.value) (kid_at names left.children.items)) (seen_kids table depth (kid_at names left.children.items))) 0 0
+  pub stands : MergedStands depth (lone_named (option_map value_of left.value) (kid_at names left.children.items)) (seen_kids table depth (kid_at names left.children.items))
 
 -- Once it is merged, and its branch states enough, what is left can be joined.
 abbrev pub JoinsMerged : ℕ → Option ValueRef → (ℕ → Kid) → (ℕ → Seen) → Option ℕ → ℕ → ℕ → Type 0

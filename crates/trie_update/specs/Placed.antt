@@ -27,9 +27,9 @@ pub record IsPlaced (outcome : Outcome) (told n : ℕ) (old new : Ledger) (place
   pub adds : Adds old new outcome.made outcome.lost outcome.fresh outcome.gone
   pub counts : Counted old new n
 
--- and so has a child of a branch
-pub record IsChild (depth : ℕ) (place : Place) (changes : List Change) (old new : Ledger) (child : Child × ℕ) : Type 0 where
-  pub kid : kid_of child.0 ≡ place_kid place changes
+-- and so has a child of a branch, which had this name there before, if it had any
+pub record IsChild (name : Option (List ℕ)) (depth : ℕ) (place : Place) (changes : List Change) (old new : Ledger) (child : Child × ℕ) : Type 0 where
+  pub kid : kid_of name child.0 ≡ place_kid place changes
   pub stated : child.1 ≡ place_stated place changes
   pub adds : Adds old new (place_outcome place changes).made (place_outcome place changes).lost (place_outcome place changes).fresh (place_outcome place changes).gone
   pub counts : Counted old new (length changes)
@@ -48,10 +48,10 @@ AddsBelow former places changes n old new =
     (disappearing former (change_at [] changes) + sum_below (λ x. (place_outcome (places x) (run_at changes x)).gone) n)
 
 -- What is left of a branch, and what its visited children stated: a sum past the end of eight bytes stops there.
-pub record IsParted (depth : ℕ) (former : Option ValueRef) (places : ℕ → Place) (changes : List Change) (old new : Ledger) (parted : Left × ℕ) : Type 0 where
+pub record IsParted (names : ℕ → Option (List ℕ)) (depth : ℕ) (former : Option ValueRef) (places : ℕ → Place) (changes : List Change) (old new : Ledger) (parted : Left × ℕ) : Type 0 where
   pub value : option_map value_of parted.0.value ≡ ref_after former (change_at [] changes)
   pub sixteen : length parted.0.children.items ≡ 16
-  pub kids : (x : ℕ) → x < 16 → kid_at parted.0.children.items x ≡ place_kid (places x) (run_at changes x)
+  pub kids : (x : ℕ) → x < 16 → kid_at names parted.0.children.items x ≡ place_kid (places x) (run_at changes x)
   pub stated : parted.1 ≡ min (sum_below (λ x. place_stated (places x) (run_at changes x)) 16) (2 ^ 64 - 1)
   pub adds : AddsBelow former places changes 16 old new
   pub counts : Counted old new (length changes)

@@ -141,6 +141,11 @@ unfoldable pub place_behind : Table → ℕ → Parent → ℕ → Place
 place_behind table depth (parent.Path old count) x = over_behind x (seen_past table depth count old) (old_past count old)
 place_behind table depth (parent.Branch kids) x = kid_place table (depth + 1) (children_in kids.now x)
 
+-- the names of the children that it had
+abbrev pub parent_names : Parent → ℕ → Option (List ℕ)
+parent_names (parent.Path old count) = λ x. None
+parent_names (parent.Branch kids) = children_in kids.now
+
 abbrev pub FitsFormer : ℕ → Former → Type 0
 FitsFormer depth (former.Known old) = FitsTop depth (old_past 0 old)
 FitsFormer depth (former.Named digest) = ⊤

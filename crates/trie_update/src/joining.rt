@@ -1,4 +1,4 @@
-ghost use Rattle.std.specs.Prelude.{◌≡◌, ◌+◌, ◌^◌, ◌<◌, ℕ, [], ◌∷◌, length, drop, option_map, Some, IfSome, IsTrue, OnOk, IfOk};
+ghost use Rattle.std.specs.Prelude.{◌≡◌, ◌+◌, ◌^◌, ◌<◌, ℕ, List, [], ◌∷◌, length, drop, Option, option_map, Some, IfSome, IsTrue, OnOk, IfOk};
 ghost use Rattle.byte_model.specs.Node as node;
 ghost use Rattle.byte_model.specs.Node.{IsShaped, own_cost};
 ghost use Rattle.node_codec.specs.Meanings.{children_in, value_of};
@@ -10,8 +10,8 @@ ghost use Rattle.trie_shape.specs.declared.sub.Sub.TheVariants.{Branch};
 ghost use Rattle.trie_shape.specs.Shows.{IsRecord};
 ghost use Rattle.trie_update.specs.Accounts.{Gains};
 ghost use Rattle.trie_update.specs.Adds.{Adds};
-ghost use Rattle.trie_update.specs.Formers.{IsFormer};
-ghost use Rattle.trie_update.specs.Subs.{CanFork, CanJoin, IsFew, IsKnown, IsNamedAt, KidStands, childless, kid_at, kid_of, more, top_of_sub};
+ghost use Rattle.trie_update.specs.Formers.{IsFormer, names_of};
+ghost use Rattle.trie_update.specs.Subs.{CanFork, CanJoin, IsFew, IsKnown, IsNamedAt, KidStands, child_at, childless, kid_at, kid_of, more, top_of_sub};
 
 use crate::former::FormerBranch;
 use crate::ledger::Ledger;
@@ -24,10 +24,8 @@ use trie_shape::{CloseError, Closed, Sub, close_branch};
 /// A child of a branch after the batch.
 #[derive(Debug, Drop)]
 pub(crate) enum Child {
-    /// There is none.
-    Absent,
-    /// It was not visited, and only its name is known.
-    Named(Digest),
+    /// What its branch had there before, if anything. No key behind it is changed.
+    Kept,
     /// Its top is known. It stands in a box, so that sixteen children take little room.
     Known(Box<Sub>),
 }
@@ -41,7 +39,7 @@ pub(crate) struct Left {
 
 /// A child whose top is known.
 pub(crate) fn known(alloc: Global, sub: Sub) -> Result<Child, AllocError>
-    ensures child { IfOk result (λ child. kid_of child ≡ model.known (top_of_sub sub)) }
+    ensures child { IfOk result (λ child. (name : Option (List ℕ)) → kid_of name child ≡ model.known (top_of_sub sub)) }
 {
     Ok(Child::Known(Box::new(alloc, sub)?))
 }
@@ -54,25 +52,29 @@ pub(crate) enum Few {
     More,
 }
 
-pub(crate) fn count_few(children: &[Child]) -> Few
+/// How many of the children of a branch are there. One that is kept is there if the former branch had it.
+pub(crate) fn count_few(former: Option<&FormerBranch<'_>>, children: &[Child]) -> Few
     requires { length children.now ≡ 16 }
-    ensures { IsFew (there (kid_at children.now)) result }
+    ensures { IsFew (there (kid_at (names_of former.entry) children.now)) result }
 {
     let mut few = Few::Zero;
     for nibble in 0..16 {
-        if is_there(&children[nibble]) {
+        if is_there(former, nibble as u8, &children[nibble]) {
             few = one_more(few, nibble);
         }
     }
     few
 }
 
-fn is_there(child: &Child) -> bool
-    ensures { result ≡ model.is_there (kid_of child.now) }
+fn is_there(former: Option<&FormerBranch<'_>>, nibble: u8, child: &Child) -> bool
+    requires { nibble < 16 }
+    ensures { result ≡ model.is_there (kid_of (names_of former.entry nibble) child.now) }
 {
     match child {
-        Child::Absent => false,
-        Child::Named(_) => true,
+        Child::Kept => match former {
+            Some(branch) => branch.kids.get(nibble).is_some(),
+            None => false,
+        },
         Child::Known(sub) => has_pairs(sub),
     }
 }
@@ -110,12 +112,12 @@ pub(crate) fn join(
 ) -> Result<Sub, AllocError>
     requires sixteen { length left.children.items ≡ 16 }
     requires former { IfSome former (λ f. IsFormer f.now) }
-    requires joins { CanJoin (option_map value_of left.value) (kid_at left.children.items) kept_usage }
-    ensures top { IfOk result (λ sub. top_of_sub sub ≡ (joint (option_map value_of left.value) (kid_at left.children.items) kept_usage).top) }
-    ensures adds { OnOk result (Adds ledger.old ledger.new (joint (option_map value_of left.value) (kid_at left.children.items) kept_usage).made [] 0 0) }
+    requires joins { CanJoin (option_map value_of left.value) (kid_at (names_of former) left.children.items) kept_usage }
+    ensures top { IfOk result (λ sub. top_of_sub sub ≡ (joint (option_map value_of left.value) (kid_at (names_of former.entry) left.children.items) kept_usage).top) }
+    ensures adds { OnOk result (Adds ledger.old ledger.new (joint (option_map value_of left.value) (kid_at (names_of former.entry) left.children.items) kept_usage).made [] 0 0) }
 {
     let Left { value, children } = left;
-    match count_few(&children) {
+    match count_few(former, &children) {
         Few::Zero => Ok(no_children(alloc, value)),
         Few::One(nibble) => one_child(alloc, ledger, former, value, children, nibble, kept_usage),
         Few::More => fork(alloc, ledger, former, value, children, kept_usage),
@@ -147,10 +149,10 @@ fn one_child(
 ) -> Result<Sub, AllocError>
     requires sixteen { length children.items ≡ 16 }
     requires former { IfSome former (λ f. IsFormer f.now) }
-    requires joins { CanJoin (option_map value_of value) (kid_at children.items) kept_usage }
-    requires one { there (kid_at children.items) ≡ nibble ∷ [] }
-    ensures top { IfOk result (λ sub. top_of_sub sub ≡ (joint (option_map value_of value) (kid_at children.items) kept_usage).top) }
-    ensures adds { OnOk result (Adds ledger.old ledger.new (joint (option_map value_of value) (kid_at children.items) kept_usage).made [] 0 0) }
+    requires joins { CanJoin (option_map value_of value) (kid_at (names_of former) children.items) kept_usage }
+    requires one { there (kid_at (names_of former) children.items) ≡ nibble ∷ [] }
+    ensures top { IfOk result (λ sub. top_of_sub sub ≡ (joint (option_map value_of value) (kid_at (names_of former.entry) children.items) kept_usage).top) }
+    ensures adds { OnOk result (Adds ledger.old ledger.new (joint (option_map value_of value) (kid_at (names_of former.entry) children.items) kept_usage).made [] 0 0) }
 {
     match value {
         None => lone(alloc, children, nibble),
@@ -158,18 +160,17 @@ fn one_child(
     }
 }
 
-/// The child that is all that is left, below its nibble.
+/// The child that is all that is left, below its nibble. One that was not visited was merged before:
+/// what is still kept had nothing there.
 fn lone(alloc: Global, mut children: Vec<Child>, nibble: usize) -> Result<Sub, AllocError>
     requires sixteen { length children.items ≡ 16 }
     requires inside { nibble < 16 }
-    requires known { IsKnown (kid_at children.items nibble) }
-    ensures top { IfOk result (λ sub. top_of_sub sub ≡ lowered (nibble ∷ []) (kid_top (kid_at children.items nibble))) }
+    ensures top { (name : Option (List ℕ)) → IsKnown (kid_of name (child_at children.items nibble)) →
+        IfOk result (λ sub. top_of_sub sub ≡ lowered (nibble ∷ []) (kid_top (kid_of name (child_at children.items nibble)))) }
 {
     match children.swap_remove(nibble) {
         Child::Known(sub) => under(alloc, Box::into_inner(sub), &[nibble as u8]),
-        Child::Absent => Ok(Sub::Empty),
-        // One that was not visited was merged before.
-        Child::Named(_) => unreachable!(),
+        Child::Kept => Ok(Sub::Empty),
     }
 }
 
@@ -180,7 +181,8 @@ fn under(alloc: Global, sub: Sub, nibbles: &[u8]) -> Result<Sub, AllocError>
     sub.under(alloc, nibbles)
 }
 
-/// A branch. The records of its children are written, and then its own.
+/// A branch. Its children begin with the names that they had before, if it was there. The records of those
+/// whose tops are known are written, and then its own.
 fn fork(
     alloc: Global,
     ledger: &mut Ledger,
@@ -191,11 +193,11 @@ fn fork(
 ) -> Result<Sub, AllocError>
     requires sixteen { length children.items ≡ 16 }
     requires former { IfSome former (λ f. IsFormer f.now) }
-    requires forks { CanFork (option_map value_of value) (kid_at children.items) kept_usage }
-    ensures top { IfOk result (λ sub. top_of_sub sub ≡ (branched (option_map value_of value) (kid_at children.items) kept_usage).top) }
-    ensures adds { OnOk result (Adds ledger.old ledger.new (branched (option_map value_of value) (kid_at children.items) kept_usage).made [] 0 0) }
+    requires forks { CanFork (option_map value_of value) (kid_at (names_of former) children.items) kept_usage }
+    ensures top { IfOk result (λ sub. top_of_sub sub ≡ (branched (option_map value_of value) (kid_at (names_of former.entry) children.items) kept_usage).top) }
+    ensures adds { OnOk result (Adds ledger.old ledger.new (branched (option_map value_of value) (kid_at (names_of former.entry) children.items) kept_usage).made [] 0 0) }
 {
-    let mut kids = Kids::NONE;
+    let mut kids = former_kids(former)?;
     let mut usage = kept_usage;
     let mut rest = VecDeque::from_vec(children);
     for nibble in 0..16 {
@@ -203,6 +205,17 @@ fn fork(
     }
     let closed = close(alloc, former, value, &kids, usage)?;
     branch_written(ledger, closed)
+}
+
+/// A copy of the names that a branch had, and none where there was no branch.
+#[inline(always)]
+fn former_kids(former: Option<&FormerBranch<'_>>) -> Result<Kids, AllocError>
+    ensures names { IfOk result (λ kids. (x : ℕ) → children_in kids x ≡ names_of former.entry x) }
+{
+    match former {
+        Some(branch) => branch.kids.clone(),
+        None => Ok(Kids::NONE),
+    }
 }
 
 /// Writes the record of a branch. One that comes out as it was read keeps its digest, and is not
@@ -267,8 +280,8 @@ fn close_again(alloc: Global, branch: &FormerBranch<'_>) -> Result<Closed, Alloc
     })
 }
 
-/// Puts the name of the next child among those of its branch, and answers the child's usage, or 0
-/// where only its name is known.
+/// Puts the name of the next child among those of its branch, and answers the child's usage. A kept one has
+/// its name there already, and the answer is 0.
 #[inline(always)]
 fn name_next(
     alloc: Global,
@@ -278,23 +291,16 @@ fn name_next(
     nibble: u8,
 ) -> Result<u64, AllocError>
     requires some { 0 < length children.old.items }
-    requires stands { KidStands (kid_at children.old.items 0) }
-    requires fits { kid_usage (kid_at children.old.items 0) < 2 ^ 64 }
+    requires stands { KidStands (kid_of (children_in kids.old nibble) (child_at children.old.items 0)) }
+    requires fits { kid_usage (kid_of (children_in kids.old nibble) (child_at children.old.items 0)) < 2 ^ 64 }
     requires inside { nibble < 16 }
-    ensures name { OnOk result (IsNamedAt kids.old kids.new nibble (kid_name (kid_at children.old.items 0))) }
-    ensures used { IfOk result (λ used. used ≡ kid_usage (kid_at children.old.items 0)) }
-    ensures adds { OnOk result (Adds ledger.old ledger.new (kid_pending (kid_at children.old.items 0)) [] 0 0) }
+    ensures name { OnOk result (IsNamedAt kids.old kids.new nibble (kid_name (kid_of (children_in kids.old nibble) (child_at children.old.items 0)))) }
+    ensures used { IfOk result (λ used. used ≡ kid_usage (kid_of (children_in kids.old nibble) (child_at children.old.items 0))) }
+    ensures adds { OnOk result (Adds ledger.old ledger.new (kid_pending (kid_of (children_in kids.old nibble) (child_at children.old.items 0))) [] 0 0) }
     ensures rest { OnOk result (children.new.items ≡ drop 1 children.old.items) }
 {
     match children.pop_front() {
-        Some(Child::Named(digest)) => {
-            kids.set(nibble, Some(digest));
-            Ok(0)
-        }
-        Some(Child::Absent) => {
-            kids.set(nibble, None);
-            Ok(0)
-        }
+        Some(Child::Kept) => Ok(0),
         Some(Child::Known(sub)) => {
             let (name, used) = recorded(alloc, ledger, Box::into_inner(sub))?;
             kids.set(nibble, name);

@@ -2,7 +2,7 @@ ghost use Rattle.std.specs.Prelude.{◌≡◌, ◌+◌, ◌-◌, ◌≤◌, [], 
 ghost use Rattle.byte_model.specs.PackedPath.{longest_path};
 ghost use Rattle.visit_model.specs.Seen.{seen_at};
 ghost use Rattle.change_model.specs.Visits.{before, closed, merge_usage, merge_visits, visit_alone};
-ghost use Rattle.node_codec.specs.Meanings.{value_of};
+ghost use Rattle.node_codec.specs.Meanings.{children_in, value_of};
 ghost use Rattle.update_model.specs.Joins.{joint};
 ghost use Rattle.update_model.specs.Updates.{merged_kids, merged_lost};
 ghost use Rattle.trie_update.specs.Adds.{Adds};
@@ -37,17 +37,17 @@ pub(crate) fn settle<T: Texts>(
     requires sixteen { length left.children.items ≡ 16 }
     requires deep { depth ≤ longest_path }
     requires former { IsFormer former.now }
-    requires joins { CanSettle (T.store.texts store.old) depth (option_map value_of left.value) (kid_at left.children.items) former.now.stated above }
-    ensures carries { let kids = kid_at left.children.items in let seen = seen_kids (T.store.texts store.old) depth kids in let m = lone_named (option_map value_of left.value) kids in
+    requires joins { CanSettle (T.store.texts store.old) depth (option_map value_of left.value) (kid_at (children_in former.now.kids.now) left.children.items) former.now.stated above }
+    ensures carries { let kids = kid_at (children_in former.now.kids.now) left.children.items in let seen = seen_kids (T.store.texts store.old) depth kids in let m = lone_named (option_map value_of left.value) kids in
         Carries T.store store.old store.new (before (merge_visits seen m) (closed former.now.digest.now.0 former.now.stated (above + merge_usage seen m))) result }
-    ensures top { let kids = kid_at left.children.items in let seen = seen_kids (T.store.texts store.old) depth kids in let m = lone_named (option_map value_of left.value) kids in
+    ensures top { let kids = kid_at (children_in former.now.kids.now) left.children.items in let seen = seen_kids (T.store.texts store.old) depth kids in let m = lone_named (option_map value_of left.value) kids in
         IfOk result (λ sub. top_of_sub sub ≡ (joint (option_map value_of left.value) (merged_kids m seen kids) (former.now.stated - (above + merge_usage seen m))).top) }
-    ensures adds { let kids = kid_at left.children.items in let seen = seen_kids (T.store.texts store.old) depth kids in let m = lone_named (option_map value_of left.value) kids in
+    ensures adds { let kids = kid_at (children_in former.now.kids.now) left.children.items in let seen = seen_kids (T.store.texts store.old) depth kids in let m = lone_named (option_map value_of left.value) kids in
         OnOk result (Adds ledger.old ledger.new (joint (option_map value_of left.value) (merged_kids m seen kids) (former.now.stated - (above + merge_usage seen m))).made (merged_lost m seen) 0 0) }
-    ensures stands { let kids = kid_at left.children.items in
+    ensures stands { let kids = kid_at (children_in former.now.kids.now) left.children.items in
         OnOk result (MergedStands depth (lone_named (option_map value_of left.value) kids) (seen_kids (T.store.texts store.old) depth kids)) }
 {
-    let (left, merged) = merge(alloc, store, ledger, left, depth)?;
+    let (left, merged) = merge(alloc, store, ledger, former, left, depth)?;
     let parts = above.saturating_add(merged);
     states_enough(former.digest, former.stated, parts)?;
     Ok(join(alloc, ledger, Some(former), left, former.stated - parts)?)
@@ -60,20 +60,21 @@ fn merge<T: Texts>(
     alloc: Global,
     store: &mut T,
     ledger: &mut Ledger,
+    former: &FormerBranch<'_>,
     left: Left,
     depth: u64,
 ) -> Result<(Left, u64), UpdateError>
     requires sixteen { length left.children.items ≡ 16 }
     requires deep { depth ≤ longest_path }
-    ensures carries { let kids = kid_at left.children.items in
+    ensures carries { let kids = kid_at (children_in former.now.kids.now) left.children.items in
         Carries T.store store.old store.new (merge_visits (seen_kids (T.store.texts store.old) depth kids) (lone_named (option_map value_of left.value) kids)) result }
-    ensures merged { IfOk result (λ merged. IsMerged (T.store.texts store.old) depth left ledger.old ledger.new merged) }
+    ensures merged { IfOk result (λ merged. IsMerged (children_in former.now.kids.now) (T.store.texts store.old) depth left ledger.old ledger.new merged) }
 {
     let Left {
         value,
         mut children,
     } = left;
-    let Some((nibble, digest)) = find_lone(&value, &children) else {
+    let Some((nibble, digest)) = find_lone(former, &value, &children) else {
         return Ok((Left { value, children }, 0));
     };
     let (sub, stated) = visit_lone(alloc, store, ledger, digest, depth)?;
@@ -83,18 +84,24 @@ fn merge<T: Texts>(
 
 /// The place and the name of the one child that is all that is left of a branch, if it was not
 /// visited.
-fn find_lone(value: &Option<ValueRef>, children: &[Child]) -> Option<(usize, Digest)>
+fn find_lone(
+    former: &FormerBranch<'_>,
+    value: &Option<ValueRef>,
+    children: &[Child],
+) -> Option<(usize, Digest)>
     requires { length children.now ≡ 16 }
-    ensures { IsLoneNamed (option_map value_of value.now) (kid_at children.now) result }
+    ensures { IsLoneNamed (option_map value_of value.now) (kid_at (children_in former.now.kids.now) children.now) result }
 {
     if value.is_some() {
         return None;
     }
-    match count_few(children) {
+    match count_few(Some(former), children) {
         Few::Zero => None,
         Few::One(nibble) => match &children[nibble] {
-            Child::Named(digest) => Some((nibble, *digest)),
-            Child::Absent => None,
+            Child::Kept => match former.kids.get(nibble as u8) {
+                Some(digest) => Some((nibble, digest)),
+                None => None,
+            },
             Child::Known(_) => None,
         },
         Few::More => None,

@@ -1,4 +1,4 @@
-ghost use Rattle.std.specs.Prelude.{◌≡◌, ◌+◌, ◌≤◌, ◌<◌, ℕ, false, ◌∷◌, ◌++◌, [], length, take, drop, option_copied, option_map, slice_index_or, Some, IfSome, OnOk, IfOk, IfErr};
+ghost use Rattle.std.specs.Prelude.{◌≡◌, ◌+◌, ◌≤◌, ◌<◌, ℕ, false, List, ◌∷◌, ◌++◌, [], length, take, drop, Option, option_copied, option_map, slice_index_or, None, Some, IfSome, OnOk, IfOk, IfErr};
 ghost use Rattle.byte_model.specs.Nibbles.{nibbles};
 ghost use Rattle.byte_model.specs.Node.{longest_value};
 ghost use Rattle.byte_model.specs.PackedPath.{longest_path};
@@ -14,7 +14,7 @@ ghost use Rattle.trie_update.specs.Accounts.{CanCount, GrowsBy, IsNamed};
 ghost use Rattle.trie_update.specs.Carries.{Carries};
 ghost use Rattle.trie_update.specs.ChangesAt.{AreChangesAt, Lent, changes_at, value_lent};
 ghost use Rattle.trie_update.specs.Formers.{IsFormer};
-ghost use Rattle.trie_update.specs.Places.{FitsParent, FitsTop, Keeps, NoBranch, Reaches, TopKeeps, led_by, old_past, kid_place, place_behind, place_kid, place_visits, seen_past, top_stated, top_visits};
+ghost use Rattle.trie_update.specs.Places.{FitsParent, FitsTop, Keeps, NoBranch, Reaches, TopKeeps, led_by, old_past, parent_names, place_behind, place_kid, place_visits, seen_past, top_stated, top_visits};
 ghost use Rattle.trie_update.specs.Placed.{IsChild, IsParted, IsPlaced, branch_inside, run_at};
 ghost use Rattle.trie_update.specs.Subs.{childless, kid_of, top_of_sub};
 ghost use Rattle.trie_update.specs.declared.errors.UpdateError.TheVariants.{NoMemory};
@@ -30,7 +30,7 @@ use crate::values::value_after;
 use crate::visiting::{Visited, states_enough, visit};
 use base_core::{Digest, Text};
 use nibble_keys::Nibbles;
-use node_codec::{Kids, Node, ValueRef};
+use node_codec::{Node, ValueRef};
 use std::alloc::{AllocError, Global};
 use text_store::Texts;
 use trie_shape::Sub;
@@ -374,7 +374,7 @@ fn at_nibbles<T: Texts>(
     requires parent { FitsParent depth parent.now }
     ensures carries { let places = place_behind (T.store.texts store.old) depth parent.now in
         Carries T.store store.old store.new (visits_below (λ x. place_visits (places x) (run_at (changes_at depth changes.now) x)) 16) result }
-    ensures parted { IfOk result (λ parted. IsParted depth (option_map value_of former) (place_behind (T.store.texts store.old) depth parent.now) (changes_at depth changes.now) ledger.old ledger.new parted) }
+    ensures parted { IfOk result (λ parted. IsParted (parent_names parent.now) depth (option_map value_of former) (place_behind (T.store.texts store.old) depth parent.now) (changes_at depth changes.now) ledger.old ledger.new parted) }
 {
     let (here, mut rest) = ending(changes, depth);
     let value = value_after(alloc, ledger, former, here)?;
@@ -416,7 +416,7 @@ fn at_nibble<T: Texts>(
     requires inside { nibble < 16 }
     requires deep { depth ≤ longest_path }
     ensures carries { Carries T.store store.old store.new (place_visits (place_behind (T.store.texts store.old) depth parent.now nibble) (changes_at (depth + 1) changes.now)) result }
-    ensures child { IfOk result (λ child. IsChild (depth + 1) (place_behind (T.store.texts store.old) depth parent.now nibble) (changes_at (depth + 1) changes.now) ledger.old ledger.new child) }
+    ensures child { IfOk result (λ child. IsChild (parent_names parent.now nibble) (depth + 1) (place_behind (T.store.texts store.old) depth parent.now nibble) (changes_at (depth + 1) changes.now) ledger.old ledger.new child) }
 {
     if changes.is_empty() {
         return Ok((unchanged(alloc, parent, nibble)?, 0));
@@ -438,7 +438,7 @@ fn at_nibble<T: Texts>(
 /// What a place has become as a child, and what its record stated.
 #[inline(always)]
 fn child_placed(alloc: Global, placed: Placed) -> Result<(Child, u64), UpdateError>
-    ensures child { IfOk result (λ child. (kid_of child.0 ≡ kid.known (top_of_sub placed.sub)) × (child.1 ≡ placed.stated)) }
+    ensures child { IfOk result (λ child. ((name : Option (List ℕ)) → kid_of name child.0 ≡ kid.known (top_of_sub placed.sub)) × (child.1 ≡ placed.stated)) }
     ensures error { IfErr result (λ error. error ≡ NoMemory) }
 {
     let Placed { sub, stated } = placed;
@@ -446,34 +446,25 @@ fn child_placed(alloc: Global, placed: Placed) -> Result<(Child, u64), UpdateErr
     Ok((child, stated))
 }
 
-/// The child that stood behind a nibble, where no key is changed.
+/// The child that stood behind a nibble, where no key is changed. A branch keeps its own.
 #[inline(always)]
 fn unchanged(alloc: Global, parent: &Parent<'_>, nibble: u8) -> Result<Child, AllocError>
     requires { nibble < 16 }
-    ensures child { IfOk result (λ child. (table : Table) (depth : ℕ) → kid_of child ≡ place_kid (place_behind table depth parent.now nibble) []) }
+    ensures child { IfOk result (λ child. (table : Table) (depth : ℕ) → kid_of (parent_names parent.now nibble) child ≡ place_kid (place_behind table depth parent.now nibble) []) }
 {
     match *parent {
         Parent::Path(old, count) => unchanged_old(alloc, &old.behind(count, nibble)),
-        Parent::Branch(kids) => Ok(unchanged_kid(kids, nibble)),
+        Parent::Branch(_) => Ok(Child::Kept),
     }
 }
 
+/// What stood behind a nibble of a path. No branch was there: where nothing stood, what is kept is nothing.
 #[inline(always)]
 fn unchanged_old(alloc: Global, old: &Old<'_>) -> Result<Child, AllocError>
-    ensures child { IfOk result (λ child. kid_of child ≡ kid.known (old_past 0 old.now)) }
+    ensures child { IfOk result (λ child. kid_of None child ≡ kid.known (old_past 0 old.now)) }
 {
     match old.sub(alloc)? {
-        Sub::Empty => Ok(Child::Absent),
+        Sub::Empty => Ok(Child::Kept),
         sub => known(alloc, sub),
-    }
-}
-
-fn unchanged_kid(kids: &Kids, nibble: u8) -> Child
-    requires { nibble < 16 }
-    ensures { (table : Table) (depth : ℕ) → kid_of result ≡ place_kid (kid_place table depth (children_in kids.now nibble)) [] }
-{
-    match kids.get(nibble) {
-        Some(digest) => Child::Named(digest),
-        None => Child::Absent,
     }
 }

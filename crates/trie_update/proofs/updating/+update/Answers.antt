@@ -7,7 +7,7 @@ use Rattle.trie_update.specs.declared.joining.Left.{Left}
 use Rattle.trie_update.specs.declared.joining.Child.{Child}
 use Rattle.trie_update.specs.declared.errors.UpdateError.TheVariants.{NoMemory, Usage}
 use Rattle.trie_update.specs.ChangesAt.{changes_at}
-use Rattle.trie_update.specs.Places.{FitsFormer, place_behind, place_visits, old_past, seen_past, top_visits, top_stated, TopKeeps}
+use Rattle.trie_update.specs.Places.{FitsFormer, parent_names, place_behind, place_visits, old_past, seen_past, top_visits, top_stated, TopKeeps}
 use Rattle.trie_update.specs.Placed.{run_at, branch_inside}
 use Rattle.trie_update.proofs.Carrying.{carries-passed, opens-changed, visit-stopped, carries-none, carries-ok, carries-stopped, carries-then, carries-less, carries-closed, carries-end, carries-late}
 use Rattle.trie_update.proofs.Turning.{IsGathered, run-short, end-carries, end-parted, gathered-none, turn-changes, turn-fewer, turn-more, turn-room, turn-short, turn-stopped}
@@ -69,7 +69,7 @@ at_branch-settle-requires-clause-joins g t c =
     let left = c.in_ok-left.left in
     let told = c.in_ok-left.below in
     let value = option_map value_of left.value in
-    let kids = kid_at left.children.items in
+    let kids = kid_at names left.children.items in
     let above = c.saturating_add-above.result in
     let texts = g.met.T.Texts.alike_texts old mid c.in_ok-left.ensures.carries.left.same in
     let children : ℕ → Seen = λ x. seen_child (seen_at table (c.args.depth + 1) false) (names x) in
@@ -93,7 +93,7 @@ at_branch-returns-in_err-sub-clause-carries g t c = λ children are.
     let left = c.in_ok-left.left in
     let told = c.in_ok-left.below in
     let value = option_map value_of left.value in
-    let kids = kid_at left.children.items in
+    let kids = kid_at names left.children.items in
     let above = c.saturating_add-above.result in
     let texts = g.met.T.Texts.alike_texts old mid c.in_ok-left.ensures.carries.left.same in
     let new = c.settle.new.store in
@@ -120,7 +120,7 @@ at_branch-returns-clause-carries g t c = λ children are.
     let left = c.in_ok-left.left in
     let told = c.in_ok-left.below in
     let value = option_map value_of left.value in
-    let kids = kid_at left.children.items in
+    let kids = kid_at names left.children.items in
     let above = c.saturating_add-above.result in
     let texts = g.met.T.Texts.alike_texts old mid c.in_ok-left.ensures.carries.left.same in
     let new = c.settle.new.store in
@@ -147,7 +147,7 @@ at_branch-returns-clause-placed g t c = λ children are.
     let left = c.in_ok-left.left in
     let told = c.in_ok-left.below in
     let value = option_map value_of left.value in
-    let kids = kid_at left.children.items in
+    let kids = kid_at names left.children.items in
     let above = c.saturating_add-above.result in
     let texts = g.met.T.Texts.alike_texts old mid c.in_ok-left.ensures.carries.left.same in
     let new = c.settle.new.store in
@@ -176,7 +176,7 @@ at_branch-returns-clause-keeps g t c = λ children are.
     let left = c.in_ok-left.left in
     let told = c.in_ok-left.below in
     let value = option_map value_of left.value in
-    let kids = kid_at left.children.items in
+    let kids = kid_at names left.children.items in
     let above = c.saturating_add-above.result in
     let texts = g.met.T.Texts.alike_texts old mid c.in_ok-left.ensures.carries.left.same in
     let new = c.settle.new.store in
@@ -436,7 +436,7 @@ at_nibble-returns-then-is_empty-clause-child g t c =
     let table = store.texts old in
     let cs = changes_at (c.args.depth + 1) c.args.changes.now in
     let none : cs ≡ [] = ap (changes_at (c.args.depth + 1)) (empty-changes c.args.changes.now c.if-is_empty.ensures) in
-    child-untouched (c.args.depth + 1) (place_behind table c.args.depth c.args.parent.now c.args.nibble) cs c.args.ledger.now c.in_ok-unchanged.field-0 none (c.in_ok-unchanged.ensures.child table c.args.depth)
+    child-untouched (parent_names c.args.parent.now c.args.nibble) (c.args.depth + 1) (place_behind table c.args.depth c.args.parent.now c.args.nibble) cs c.args.ledger.now c.in_ok-unchanged.field-0 none (c.in_ok-unchanged.ensures.child table c.args.depth)
 
 pub at_nibble-at_path-requires : goal.at_nibble-at_path-requires
 at_nibble-at_path-requires g t c =
@@ -476,7 +476,7 @@ at_nibble-returns-in_ok-placed-in-Known-clause-child g t c =
     let place = c.behind-former.ensures.place (store.texts c.args.store.now) c.args.depth c.requires.parent in
     let some = some-changes c.args.changes.now c.if-is_empty.ensures in
     let touched = known-touched _ (c.args.depth + 1) c.behind-former.result _ place c.args.changes.now some c.in-Known.old c.in-Known.is in
-    IfOk-weaker c.child_placed.result _ _ (λ child is. child-placed (c.args.depth + 1) _ _ _ _ _ _ touched (length-changes_at (c.args.depth + 1) c.args.changes.now) c.args.ledger.now c.at_path.new.ledger c.in_ok-placed-in-Known.placed c.in_ok-placed-in-Known.ensures.placed
+    IfOk-weaker c.child_placed.result _ _ (λ child is. child-placed (c.args.depth + 1) _ _ _ _ _ _ touched (length-changes_at (c.args.depth + 1) c.args.changes.now) (parent_names c.args.parent.now c.args.nibble) c.args.ledger.now c.at_path.new.ledger c.in_ok-placed-in-Known.placed c.in_ok-placed-in-Known.ensures.placed
     (known-keeps _ (c.args.depth + 1) c.behind-former.result _ place c.args.changes.now some c.in-Known.old c.in-Known.is c.in_ok-placed-in-Known.ensures.keeps) child is.0 is.1) c.child_placed.ensures.child
 
 pub at_nibble-returns-in_ok-placed-in-Named-clause-carries : goal.at_nibble-returns-in_ok-placed-in-Named-clause-carries
@@ -494,7 +494,7 @@ at_nibble-returns-in_ok-placed-in-Named-clause-child g t c =
     let place = c.behind-former.ensures.place (store.texts c.args.store.now) c.args.depth c.requires.parent in
     let some = some-changes c.args.changes.now c.if-is_empty.ensures in
     let touched = named-touched _ (c.args.depth + 1) c.behind-former.result _ place c.args.changes.now some c.in-Named.digest c.in-Named.is in
-    IfOk-weaker c.child_placed-in-Named.result _ _ (λ child is. child-placed (c.args.depth + 1) _ _ _ _ _ _ touched (length-changes_at (c.args.depth + 1) c.args.changes.now) c.args.ledger.now c.at_digest.new.ledger c.in_ok-placed-in-Named.placed c.in_ok-placed-in-Named.ensures.placed
+    IfOk-weaker c.child_placed-in-Named.result _ _ (λ child is. child-placed (c.args.depth + 1) _ _ _ _ _ _ touched (length-changes_at (c.args.depth + 1) c.args.changes.now) (parent_names c.args.parent.now c.args.nibble) c.args.ledger.now c.at_digest.new.ledger c.in_ok-placed-in-Named.placed c.in_ok-placed-in-Named.ensures.placed
     (named-keeps _ (c.args.depth + 1) c.behind-former.result _ place c.args.changes.now some c.in-Named.digest c.in-Named.is c.in_ok-placed-in-Named.ensures.keeps) child is.0 is.1) c.child_placed-in-Named.ensures.child
 
 pub at_nibbles-run_length-requires-clause-rises : goal.at_nibbles-run_length-requires-clause-rises
@@ -517,9 +517,9 @@ at_nibbles-at_nibble-requires g t c =
     let table = store.texts c.args.store.now in
     let places = place_behind table c.args.depth c.args.parent.now in
     let deep = lent-deep c.args.depth c.args.changes.now c.requires.changes c.requires.some in
-    let fewer = turn-fewer store c.args.depth ref places c.args.changes.now c.loop-nibble.rest.now c.loop-nibble.nibble c.loop-nibble.children.items c.loop-nibble.stated c.args.store.now c.loop-nibble.store c.args.ledger.now c.loop-nibble.ledger c.loop-nibble.invariant c.split_at.result.0.now c.split_at.result.1.now c.run_length.result c.run_length.ensures c.split_at.ensures.front c.split_at.ensures.back in
+    let fewer = turn-fewer store (parent_names c.args.parent.now) c.args.depth ref places c.args.changes.now c.loop-nibble.rest.now c.loop-nibble.nibble c.loop-nibble.children.items c.loop-nibble.stated c.args.store.now c.loop-nibble.store c.args.ledger.now c.loop-nibble.ledger c.loop-nibble.invariant c.split_at.result.0.now c.split_at.result.1.now c.run_length.result c.run_length.ensures c.split_at.ensures.front c.split_at.ensures.back in
     let few = c.requires.few in
-    λ κs h. (search rules, (h, (turn-changes store c.args.depth ref places c.args.changes.now c.loop-nibble.rest.now c.loop-nibble.nibble c.loop-nibble.children.items c.loop-nibble.stated c.args.store.now c.loop-nibble.store c.args.ledger.now c.loop-nibble.ledger c.loop-nibble.invariant c.split_at.result.0.now c.split_at.result.1.now c.run_length.result c.run_length.ensures c.split_at.ensures.front c.split_at.ensures.back, (omega arith, (turn-room store c.args.depth ref places c.args.changes.now c.loop-nibble.rest.now c.loop-nibble.nibble c.loop-nibble.children.items c.loop-nibble.stated c.args.store.now c.loop-nibble.store c.args.ledger.now c.loop-nibble.ledger c.loop-nibble.invariant c.split_at.result.0.now c.split_at.result.1.now c.run_length.result c.run_length.ensures c.split_at.ensures.front c.split_at.ensures.back c.requires.room, (c.loop-nibble.invariant.named, (c.requires.parent, (c.loop-nibble-test.true, omega arith))))))))
+    λ κs h. (search rules, (h, (turn-changes store (parent_names c.args.parent.now) c.args.depth ref places c.args.changes.now c.loop-nibble.rest.now c.loop-nibble.nibble c.loop-nibble.children.items c.loop-nibble.stated c.args.store.now c.loop-nibble.store c.args.ledger.now c.loop-nibble.ledger c.loop-nibble.invariant c.split_at.result.0.now c.split_at.result.1.now c.run_length.result c.run_length.ensures c.split_at.ensures.front c.split_at.ensures.back, (omega arith, (turn-room store (parent_names c.args.parent.now) c.args.depth ref places c.args.changes.now c.loop-nibble.rest.now c.loop-nibble.nibble c.loop-nibble.children.items c.loop-nibble.stated c.args.store.now c.loop-nibble.store c.args.ledger.now c.loop-nibble.ledger c.loop-nibble.invariant c.split_at.result.0.now c.split_at.result.1.now c.run_length.result c.run_length.ensures c.split_at.ensures.front c.split_at.ensures.back c.requires.room, (c.loop-nibble.invariant.named, (c.requires.parent, (c.loop-nibble-test.true, omega arith))))))))
 
 pub at_nibbles-returns-in_err-child-clause-carries : goal.at_nibbles-returns-in_err-child-clause-carries
 at_nibbles-returns-in_err-child-clause-carries g t c =
@@ -531,7 +531,7 @@ at_nibbles-returns-in_err-child-clause-carries g t c =
     let now = store.texts c.loop-nibble.store in
     let place = ap (λ t. place_behind t c.args.depth c.args.parent.now c.loop-nibble.nibble) (sym texts) in
     carries-passed store {X = Left × ℕ} {Y = Left × ℕ} c.args.store.now c.at_nibble.new.store (visits_below (λ x. place_visits (places x) (run_at (changes_at c.args.depth c.args.changes.now) x)) 16) c.in_err-child.field-0.0 c.from_residual-in_err-child.result c.from_residual-in_err-child.ensures.1
-    (turn-stopped store c.args.depth ref places c.args.changes.now c.loop-nibble.rest.now c.loop-nibble.nibble c.loop-nibble.children.items c.loop-nibble.stated c.args.store.now c.loop-nibble.store c.args.ledger.now c.loop-nibble.ledger c.loop-nibble.invariant c.split_at.result.0.now c.split_at.result.1.now c.run_length.result c.run_length.ensures c.split_at.ensures.front c.split_at.ensures.back (place_behind now c.args.depth c.args.parent.now c.loop-nibble.nibble) place {X = Child × ℕ} {Y = Left × ℕ} g.met.T.Texts.alike_onward c.at_nibble.new.store c.in_err-child.field-0.0 c.loop-nibble-test.true c.in_err-child.ensures.carries)
+    (turn-stopped store (parent_names c.args.parent.now) c.args.depth ref places c.args.changes.now c.loop-nibble.rest.now c.loop-nibble.nibble c.loop-nibble.children.items c.loop-nibble.stated c.args.store.now c.loop-nibble.store c.args.ledger.now c.loop-nibble.ledger c.loop-nibble.invariant c.split_at.result.0.now c.split_at.result.1.now c.run_length.result c.run_length.ensures c.split_at.ensures.front c.split_at.ensures.back (place_behind now c.args.depth c.args.parent.now c.loop-nibble.nibble) place {X = Child × ℕ} {Y = Left × ℕ} g.met.T.Texts.alike_onward c.at_nibble.new.store c.in_err-child.field-0.0 c.loop-nibble-test.true c.in_err-child.ensures.carries)
 
 pub at_nibbles-returns-in_err-push-clause-carries : goal.at_nibbles-returns-in_err-push-clause-carries
 at_nibbles-returns-in_err-push-clause-carries g t c =
@@ -544,7 +544,7 @@ at_nibbles-returns-in_err-push-clause-carries g t c =
     let place = ap (λ t. place_behind t c.args.depth c.args.parent.now c.loop-nibble.nibble) (sym texts) in
     carries-passed store {X = Left × ℕ} {Y = Left × ℕ} c.args.store.now c.at_nibble.new.store (visits_below (λ x. place_visits (places x) (run_at (changes_at c.args.depth c.args.changes.now) x)) 16) NoMemory c.from_residual-in_err-push.result
     c.from_residual-in_err-push.ensures.1
-    (turn-short store c.args.depth ref places c.args.changes.now c.loop-nibble.rest.now c.loop-nibble.nibble c.loop-nibble.children.items c.loop-nibble.stated c.args.store.now c.loop-nibble.store c.args.ledger.now c.loop-nibble.ledger c.loop-nibble.invariant c.split_at.result.0.now c.split_at.result.1.now c.run_length.result c.run_length.ensures c.split_at.ensures.front c.split_at.ensures.back (place_behind now c.args.depth c.args.parent.now c.loop-nibble.nibble) place c.at_nibble.new.store c.at_nibble.new.ledger (c.in_ok-child.child, c.in_ok-child.used) c.in_ok-child.ensures.child g.met.T.Texts.alike_onward c.in_ok-child.ensures.carries {Y = Left × ℕ} c.loop-nibble-test.true)
+    (turn-short store (parent_names c.args.parent.now) c.args.depth ref places c.args.changes.now c.loop-nibble.rest.now c.loop-nibble.nibble c.loop-nibble.children.items c.loop-nibble.stated c.args.store.now c.loop-nibble.store c.args.ledger.now c.loop-nibble.ledger c.loop-nibble.invariant c.split_at.result.0.now c.split_at.result.1.now c.run_length.result c.run_length.ensures c.split_at.ensures.front c.split_at.ensures.back (place_behind now c.args.depth c.args.parent.now c.loop-nibble.nibble) place c.at_nibble.new.store c.at_nibble.new.ledger (c.in_ok-child.child, c.in_ok-child.used) c.in_ok-child.ensures.child g.met.T.Texts.alike_onward c.in_ok-child.ensures.carries {Y = Left × ℕ} c.loop-nibble-test.true)
 
 pub at_nibbles-returns-clause-carries : goal.at_nibbles-returns-clause-carries
 at_nibbles-returns-clause-carries g t c =
@@ -553,7 +553,7 @@ at_nibbles-returns-clause-carries g t c =
     let table = store.texts c.args.store.now in
     let places = place_behind table c.args.depth c.args.parent.now in
     let done : c.loop-nibble.nibble ≡ 16 = omega arith in
-    end-carries store c.args.depth ref places c.args.changes.now c.loop-nibble.rest.now c.loop-nibble.nibble c.loop-nibble.children.items c.loop-nibble.stated c.args.store.now c.loop-nibble.store c.args.ledger.now c.loop-nibble.ledger c.loop-nibble.invariant done {Y = Left × ℕ} _
+    end-carries store (parent_names c.args.parent.now) c.args.depth ref places c.args.changes.now c.loop-nibble.rest.now c.loop-nibble.nibble c.loop-nibble.children.items c.loop-nibble.stated c.args.store.now c.loop-nibble.store c.args.ledger.now c.loop-nibble.ledger c.loop-nibble.invariant done {Y = Left × ℕ} _
 
 pub at_nibbles-returns-clause-parted : goal.at_nibbles-returns-clause-parted
 at_nibbles-returns-clause-parted g t c =
@@ -562,7 +562,7 @@ at_nibbles-returns-clause-parted g t c =
     let table = store.texts c.args.store.now in
     let places = place_behind table c.args.depth c.args.parent.now in
     let done : c.loop-nibble.nibble ≡ 16 = omega arith in
-    end-parted store c.args.depth ref places c.args.changes.now c.loop-nibble.rest.now c.loop-nibble.nibble c.loop-nibble.children.items c.loop-nibble.stated c.args.store.now c.loop-nibble.store c.args.ledger.now c.loop-nibble.ledger c.loop-nibble.invariant done (record { value = c.in_ok-value.value; children = c.loop-nibble.children }) refl
+    end-parted store (parent_names c.args.parent.now) c.args.depth ref places c.args.changes.now c.loop-nibble.rest.now c.loop-nibble.nibble c.loop-nibble.children.items c.loop-nibble.stated c.args.store.now c.loop-nibble.store c.args.ledger.now c.loop-nibble.ledger c.loop-nibble.invariant done (record { value = c.in_ok-value.value; children = c.loop-nibble.children }) refl
     (c.in_ok-value.ensures.value ∙ ap (λ h. ref_after ref h) c.ending.ensures.value)
 
 pub at_old-returns-in_err-placed-clause-carries : goal.at_old-returns-in_err-placed-clause-carries
@@ -784,8 +784,8 @@ at_nibbles-loop-nibble-init g t c =
     let ref = option_map value_of c.args.former in
     let table = store.texts c.args.store.now in
     let places = place_behind table c.args.depth c.args.parent.now in
-    subst (λ items. IsGathered store c.args.depth ref places c.args.changes.now c.ending.result.1.now 0 items 0 c.args.store.now c.args.store.now c.args.ledger.now c.value_after.new.ledger) (sym c.in_ok-children.ensures.items)
-    (gathered-none store c.args.depth ref places c.args.changes.now c.ending.result.1.now c.args.store.now c.args.ledger.now c.value_after.new.ledger c.ending.result.0 c.ending.ensures.value c.ending.ensures.left c.ending.ensures.fewer c.requires.named c.in_ok-value.ensures.grows c.in_ok-value.ensures.names (g.met.T.Texts.alike_itself c.args.store.now))
+    subst (λ items. IsGathered store (parent_names c.args.parent.now) c.args.depth ref places c.args.changes.now c.ending.result.1.now 0 items 0 c.args.store.now c.args.store.now c.args.ledger.now c.value_after.new.ledger) (sym c.in_ok-children.ensures.items)
+    (gathered-none store (parent_names c.args.parent.now) c.args.depth ref places c.args.changes.now c.ending.result.1.now c.args.store.now c.args.ledger.now c.value_after.new.ledger c.ending.result.0 c.ending.ensures.value c.ending.ensures.left c.ending.ensures.fewer c.requires.named c.in_ok-value.ensures.grows c.in_ok-value.ensures.names (g.met.T.Texts.alike_itself c.args.store.now))
 
 pub at_nibbles-loop-nibble-preserved : goal.at_nibbles-loop-nibble-preserved
 at_nibbles-loop-nibble-preserved g t c =
@@ -796,5 +796,5 @@ at_nibbles-loop-nibble-preserved g t c =
     let texts = g.met.T.Texts.alike_texts c.args.store.now c.loop-nibble.store c.loop-nibble.invariant.carries.left.same in
     let now = store.texts c.loop-nibble.store in
     let place = ap (λ t. place_behind t c.args.depth c.args.parent.now c.loop-nibble.nibble) (sym texts) in
-    let more = turn-more store c.args.depth ref places c.args.changes.now c.loop-nibble.rest.now c.loop-nibble.nibble c.loop-nibble.children.items c.loop-nibble.stated c.args.store.now c.loop-nibble.store c.args.ledger.now c.loop-nibble.ledger c.loop-nibble.invariant c.split_at.result.0.now c.split_at.result.1.now c.run_length.result c.run_length.ensures c.split_at.ensures.front c.split_at.ensures.back (place_behind now c.args.depth c.args.parent.now c.loop-nibble.nibble) place c.at_nibble.new.store c.at_nibble.new.ledger (c.in_ok-child.child, c.in_ok-child.used) c.in_ok-child.ensures.child g.met.T.Texts.alike_onward c.in_ok-child.ensures.carries c.push.new.children.items c.in_ok-push.ensures.items c.loop-nibble-test.true in
-    subst (λ n. IsGathered store c.args.depth ref places c.args.changes.now c.split_at.result.1.now (c.loop-nibble.nibble + 1) c.push.new.children.items n c.args.store.now c.at_nibble.new.store c.args.ledger.now c.at_nibble.new.ledger) (sym c.saturating_add-stated.ensures) more
+    let more = turn-more store (parent_names c.args.parent.now) c.args.depth ref places c.args.changes.now c.loop-nibble.rest.now c.loop-nibble.nibble c.loop-nibble.children.items c.loop-nibble.stated c.args.store.now c.loop-nibble.store c.args.ledger.now c.loop-nibble.ledger c.loop-nibble.invariant c.split_at.result.0.now c.split_at.result.1.now c.run_length.result c.run_length.ensures c.split_at.ensures.front c.split_at.ensures.back (place_behind now c.args.depth c.args.parent.now c.loop-nibble.nibble) place c.at_nibble.new.store c.at_nibble.new.ledger (c.in_ok-child.child, c.in_ok-child.used) c.in_ok-child.ensures.child g.met.T.Texts.alike_onward c.in_ok-child.ensures.carries c.push.new.children.items c.in_ok-push.ensures.items c.loop-nibble-test.true in
+    subst (λ n. IsGathered store (parent_names c.args.parent.now) c.args.depth ref places c.args.changes.now c.split_at.result.1.now (c.loop-nibble.nibble + 1) c.push.new.children.items n c.args.store.now c.at_nibble.new.store c.args.ledger.now c.at_nibble.new.ledger) (sym c.saturating_add-stated.ensures) more

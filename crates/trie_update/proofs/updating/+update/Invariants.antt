@@ -1,7 +1,7 @@
 use Rattle.std.proofs.Common.{◌+◌, ◌-◌, ◌*◌, if◌then◌else◌, option_map}
 use Rattle.byte_model.specs.PackedPath.{longest_path}
 use Rattle.node_codec.specs.Meanings.{value_of}
-use Rattle.trie_update.specs.Places.{place_behind}
+use Rattle.trie_update.specs.Places.{parent_names, place_behind}
 use Rattle.trie_update.proofs.Turning.{IsGathered}
 use Rattle.trie_update.proofs.updating.+update.Given as goal
 
@@ -29,4 +29,4 @@ decreases-at_nibbles g l = 8 * (longest_path + 2 - l.depth) + 1
 
 abbrev pub invariant-at_nibbles-loop-nibble : goal.invariant-at_nibbles-loop-nibble
 invariant-at_nibbles-loop-nibble g l =
-    IsGathered g.T.Texts.store l.depth (option_map value_of l.fn.former) (place_behind (g.T.Texts.store.texts l.fn.store) l.depth l.parent) l.changes l.rest l.nibble l.children.items l.stated l.fn.store l.store l.fn.ledger l.ledger
+    IsGathered g.T.Texts.store (parent_names l.parent) l.depth (option_map value_of l.fn.former) (place_behind (g.T.Texts.store.texts l.fn.store) l.depth l.parent) l.changes l.rest l.nibble l.children.items l.stated l.fn.store l.store l.fn.ledger l.ledger
