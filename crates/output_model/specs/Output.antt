@@ -1,4 +1,4 @@
--- What a run may write and how it then ends, how many texts it loads, and which blocks are live in the end: one function of its limits, the command words and the bytes of the input. There is one output, but for `replay`, of which two things are free where no state stands behind a recording.
+-- What a run may write and how it then ends, how many texts it loads, and which blocks are live in the end: one function of its limits, the command words and the bytes of the input. There is one output, but for `replay`: two things of it are free where its input is not the recording of a state.
 use Rattle.std.specs.Prelude.{◌≡◌, ℕ, List, Option, None, Some, if◌then◌else◌}
 use Rattle.script_model.specs.Words.{Op, Command, root, apply, get, prove, replay, command_of}
 use Rattle.fork_model.specs.States.{ForkState, first_fork}
