@@ -58,10 +58,10 @@ fn joined(alloc: Global, parts: &[&[u8]]) -> Result<Text, AllocError> {
 }
 
 fn expect_path(rt: &impl Abort, path: &Packed<'_>, nibbles: &[u8]) {
-    assert_eq!(rt; path.len(), nibbles.len() as u64);
+    assert!(rt; path.len() == nibbles.len() as u64);
     for (i, nibble) in nibbles.iter().enumerate() {
         assert!(rt; (i as u64) < path.len());
-        assert_eq!(rt; path.at(i as u64), *nibble);
+        assert!(rt; path.at(i as u64) == *nibble);
     }
 }
 
@@ -75,11 +75,11 @@ fn expect_leaf(
 ) -> Result<(), Fail> {
     let record = joined(alloc, parts)?;
     let (node, stated) = read_node(record.as_slice()).expect(rt, "a record");
-    assert_eq!(rt; stated, usage);
+    assert!(rt; stated == usage);
     match node {
         NodeView::Leaf { path, value: named } => {
             expect_path(rt, &path, nibbles);
-            assert_eq!(rt; named, value);
+            assert!(rt; named == value);
         }
         _ => panic!(rt; "a leaf"),
     }
@@ -113,18 +113,18 @@ fn leaves_that_are_read(rt: HostRuntime) -> Result<(), Fail> {
 
 /// The same child, or none, at each nibble.
 fn expect_children(rt: &impl Abort, kids: &KidsView<'_>, want: &Kids) {
-    assert_eq!(rt; kids.count(), want.count());
+    assert!(rt; kids.count() == want.count());
     for i in 0..16 {
-        assert_eq!(rt; kids.get(i), want.get(i));
+        assert!(rt; kids.get(i) == want.get(i));
     }
 }
 
 fn expect_branch(rt: &impl Abort, record: &Text, value: Option<ValueRef>, want: &Kids, usage: u64) {
     let (node, stated) = read_node(record.as_slice()).expect(rt, "a record");
-    assert_eq!(rt; stated, usage);
+    assert!(rt; stated == usage);
     match node {
         NodeView::Branch { value: named, kids } => {
-            assert_eq!(rt; named, value);
+            assert!(rt; named == value);
             expect_children(rt, &kids, want);
         }
         _ => panic!(rt; "no branch"),
@@ -181,7 +181,13 @@ fn an_extension_that_is_read(rt: HostRuntime) -> Result<(), Fail> {
 
 /// Cut anywhere, a record is refused at the field that is not whole. The offsets are those at which
 /// its fields begin.
-fn expect_cuts(rt: &impl Abort, record: &Text, offsets: &[u64]) {
+fn expect_cuts(
+    rt: &impl Abort,
+    alloc: Global,
+    parts: &[&[u8]],
+    offsets: &[u64],
+) -> Result<(), Fail> {
+    let record = joined(alloc, parts)?;
     let bytes = record.as_slice();
     let mut at = 0;
     for length in 0..bytes.len() {
@@ -190,22 +196,22 @@ fn expect_cuts(rt: &impl Abort, record: &Text, offsets: &[u64]) {
         }
         let (prefix, _) = bytes.split_at(length);
         let error = NodeError::Frame(BorshError::Short { at });
-        assert_eq!(rt; read_node(prefix).err(), Some(error), "{length}");
+        assert!(rt; read_node(prefix).err() == Some(error), "{length}");
     }
+    Ok(())
 }
 
 #[test]
 fn records_cut_short(rt: HostRuntime) -> Result<(), Fail> {
     let alloc = rt.alloc();
-    let leaf = joined(alloc, &[b"\0\x01\0\0\0\x20\0\0\0\0", &NOTHING.0, USAGE])?;
-    expect_cuts(&rt, &leaf, &[1, 5, 6, 10, 42]);
-    let branch = joined(alloc, &[b"\x01\x06\0", &FIRST.0, &SECOND.0, USAGE])?;
-    expect_cuts(&rt, &branch, &[1, 3, 35, 67]);
-    let branch = joined(alloc, &[b"\x02\x01\0\0\0", &A.0, b"\x40\0", &LAST.0, USAGE])?;
-    expect_cuts(&rt, &branch, &[1, 5, 37, 39, 71]);
-    let extension = joined(alloc, &[b"\x03\x01\0\0\0\x16", &BOTH.0, USAGE])?;
-    expect_cuts(&rt, &extension, &[1, 5, 6, 38]);
-    Ok(())
+    let leaf: [&[u8]; 3] = [b"\0\x01\0\0\0\x20\0\0\0\0", &NOTHING.0, USAGE];
+    expect_cuts(&rt, alloc, &leaf, &[1, 5, 6, 10, 42])?;
+    let branch: [&[u8]; 4] = [b"\x01\x06\0", &FIRST.0, &SECOND.0, USAGE];
+    expect_cuts(&rt, alloc, &branch, &[1, 3, 35, 67])?;
+    let branch: [&[u8]; 5] = [b"\x02\x01\0\0\0", &A.0, b"\x40\0", &LAST.0, USAGE];
+    expect_cuts(&rt, alloc, &branch, &[1, 5, 37, 39, 71])?;
+    let extension: [&[u8]; 3] = [b"\x03\x01\0\0\0\x16", &BOTH.0, USAGE];
+    expect_cuts(&rt, alloc, &extension, &[1, 5, 6, 38])
 }
 
 fn expect_refused(
@@ -215,70 +221,63 @@ fn expect_refused(
     error: NodeError,
 ) -> Result<(), Fail> {
     let record = joined(alloc, parts)?;
-    assert_eq!(rt; read_node(record.as_slice()).err(), Some(error));
+    assert!(rt;
+        read_node(record.as_slice()).err() == Some(error),
+        "{error:?}"
+    );
     Ok(())
-}
-
-fn expect_leaf_refused(
-    rt: &impl Abort,
-    alloc: Global,
-    prefix: &[u8],
-    back: &[u8],
-    error: NodeError,
-) -> Result<(), Fail> {
-    expect_refused(
-        rt,
-        alloc,
-        &[prefix, b"\0\0\0\0", &NOTHING.0, USAGE, back],
-        error,
-    )
 }
 
 /// The leaf of the empty key with another byte, one byte more, or another path.
 #[test]
 fn leaves_that_are_refused(rt: HostRuntime) -> Result<(), Fail> {
-    let alloc = rt.alloc();
-    let kind = NodeError::Frame(BorshError::Ordinal { at: 0 });
-    let rest = NodeError::Frame(BorshError::Rest { at: 50 });
-    let empty = NodeError::Path(PackError::Empty);
-    let flag = NodeError::Path(PackError::Flag);
-    let pad = NodeError::Path(PackError::Pad);
-    expect_leaf_refused(&rt, alloc, b"\x04\x01\0\0\0\x20", b"", kind)?;
-    expect_leaf_refused(&rt, alloc, b"\0\x01\0\0\0\x20", b"\0", rest)?;
-    expect_leaf_refused(&rt, alloc, b"\0\0\0\0\0", b"", empty)?;
-    expect_leaf_refused(&rt, alloc, b"\0\x01\0\0\0\x60", b"", flag)?;
-    expect_leaf_refused(&rt, alloc, b"\0\x01\0\0\0\x21", b"", pad)?;
-    expect_leaf_refused(&rt, alloc, b"\0\x01\0\0\0\x00", b"", flag)
+    let leaves: [(&[u8], &[u8], NodeError); 6] = [
+        (
+            b"\x04\x01\0\0\0\x20",
+            b"",
+            NodeError::Frame(BorshError::Ordinal { at: 0 }),
+        ),
+        (
+            b"\0\x01\0\0\0\x20",
+            b"\0",
+            NodeError::Frame(BorshError::Rest { at: 50 }),
+        ),
+        (b"\0\0\0\0\0", b"", NodeError::Path(PackError::Empty)),
+        (b"\0\x01\0\0\0\x60", b"", NodeError::Path(PackError::Flag)),
+        (b"\0\x01\0\0\0\x21", b"", NodeError::Path(PackError::Pad)),
+        (b"\0\x01\0\0\0\x00", b"", NodeError::Path(PackError::Flag)),
+    ];
+    for (path, back, error) in leaves {
+        let parts: [&[u8]; 5] = [path, b"\0\0\0\0", &NOTHING.0, USAGE, back];
+        expect_refused(&rt, rt.alloc(), &parts, error)?;
+    }
+    Ok(())
 }
 
 /// A leaf flag on an extension, more bits than digests, and nodes of no good shape.
 #[test]
 fn nodes_that_are_refused(rt: HostRuntime) -> Result<(), Fail> {
-    let alloc = rt.alloc();
-    let flag = NodeError::Path(PackError::Flag);
-    let third = NodeError::Frame(BorshError::Short { at: 67 });
-    let shape = NodeError::Shape;
-    expect_refused(&rt, alloc, &[b"\x03\x01\0\0\0\x36", &BOTH.0, USAGE], flag)?;
-    expect_refused(
-        &rt,
-        alloc,
-        &[b"\x01\x0e\0", &FIRST.0, &SECOND.0, USAGE],
-        third,
-    )?;
-    expect_refused(&rt, alloc, &[b"\x03\x01\0\0\0\0", &BOTH.0, USAGE], shape)?;
-    expect_refused(&rt, alloc, &[b"\x01\x02\0", &FIRST.0, USAGE], shape)?;
-    expect_refused(
-        &rt,
-        alloc,
-        &[b"\x02\x01\0\0\0", &A.0, b"\0\0", USAGE],
-        shape,
-    )?;
-    expect_refused(
-        &rt,
-        alloc,
-        &[b"\0\x01\0\0\0\x20\x01\0\x40\0", &A.0, USAGE],
-        shape,
-    )
+    let nodes: [(&[&[u8]], NodeError); 6] = [
+        (
+            &[b"\x03\x01\0\0\0\x36", &BOTH.0, USAGE],
+            NodeError::Path(PackError::Flag),
+        ),
+        (
+            &[b"\x01\x0e\0", &FIRST.0, &SECOND.0, USAGE],
+            NodeError::Frame(BorshError::Short { at: 67 }),
+        ),
+        (&[b"\x03\x01\0\0\0\0", &BOTH.0, USAGE], NodeError::Shape),
+        (&[b"\x01\x02\0", &FIRST.0, USAGE], NodeError::Shape),
+        (&[b"\x02\x01\0\0\0", &A.0, b"\0\0", USAGE], NodeError::Shape),
+        (
+            &[b"\0\x01\0\0\0\x20\x01\0\x40\0", &A.0, USAGE],
+            NodeError::Shape,
+        ),
+    ];
+    for (parts, error) in nodes {
+        expect_refused(&rt, rt.alloc(), parts, error)?;
+    }
+    Ok(())
 }
 
 /// A branch with all sixteen children, each named by sixteen times its nibble.

@@ -70,11 +70,21 @@ fn branch_with_value(
     Ok(write_node(alloc, &node, usage)?)
 }
 
+/// The digest of a leaf.
+fn leaf_digest(alloc: Global, path: &[u8], bytes: &[u8]) -> Result<Digest, AllocError>
+    requires nibbles { AreNibbles path.now }
+    requires short { length path.now ≤ longest_path }
+    requires small { length bytes.now ≤ longest_value }
+{
+    let record = leaf(alloc, path, bytes, 103)?;
+    Ok(digest(record.as_slice()))
+}
+
 /// How a record begins, how long it is, and its SHA-256.
 fn expect(rt: &impl Abort, record: &Text, start: &[u8], length: usize, name: &str) {
     let bytes = record.as_slice();
     assert!(rt; bytes.starts_with(start), "{name}");
-    assert_eq!(rt; bytes.len(), length, "{name}");
+    assert!(rt; bytes.len() == length, "{name}");
     let mut shown = [0; 64];
     digest(bytes).to_hex_into(&mut shown);
     assert_eq!(rt; shown.as_slice(), name.as_bytes());
@@ -84,8 +94,7 @@ fn expect(rt: &impl Abort, record: &Text, start: &[u8], length: usize, name: &st
 fn sixteen(alloc: Global) -> Result<Kids, AllocError> {
     let mut kids = Kids::NONE;
     for i in 0..16 {
-        let record = leaf(alloc, &[0], &[i], 103)?;
-        kids.set(i, Some(digest(record.as_slice())));
+        kids.set(i, Some(leaf_digest(alloc, &[0], &[i])?));
     }
     Ok(kids)
 }
@@ -113,11 +122,9 @@ fn leaves(rt: HostRuntime) -> Result<(), Fail> {
 
 #[test]
 fn under_an_odd_extension(rt: HostRuntime) -> Result<(), Fail> {
-    let a = leaf(rt.alloc(), &[], b"a", 103)?;
-    let b = leaf(rt.alloc(), &[], b"b", 103)?;
     let mut kids = Kids::NONE;
-    kids.set(1, Some(digest(a.as_slice())));
-    kids.set(2, Some(digest(b.as_slice())));
+    kids.set(1, Some(leaf_digest(rt.alloc(), &[], b"a")?));
+    kids.set(2, Some(leaf_digest(rt.alloc(), &[], b"b")?));
     let two = branch(&rt, rt.alloc(), kids, 256)?;
     expect(
         &rt,
@@ -139,9 +146,8 @@ fn under_an_odd_extension(rt: HostRuntime) -> Result<(), Fail> {
 
 #[test]
 fn under_an_even_extension(rt: HostRuntime) -> Result<(), Fail> {
-    let last = leaf(rt.alloc(), &[2], b"b", 103)?;
     let mut kids = Kids::NONE;
-    kids.set(6, Some(digest(last.as_slice())));
+    kids.set(6, Some(leaf_digest(rt.alloc(), &[2], b"b")?));
     let one = branch_with_value(&rt, rt.alloc(), b"a", kids, 204)?;
     expect(
         &rt,
