@@ -5,15 +5,25 @@ use std::alloc::Global;
 use std::process::Abort;
 use std::test::Fail;
 
+/// All that is left of a source.
+fn expect_rest(
+    rt: &impl Abort,
+    feed: &mut Feed,
+    source: &mut MemSource,
+    want: &[u8],
+) -> Result<(), Fail> {
+    assert!(rt; feed.all(source)?.as_slice() == want, "{want:?}");
+    Ok(())
+}
+
 /// Takes an input whole, in pieces.
 fn expect_all(rt: &impl Abort, alloc: Global, input: &[u8], piece: u64) -> Result<(), Fail>
     requires { 1 ≤ piece }
 {
     let mut source = MemSource::new(alloc, input, piece, &[])?;
     let mut feed = Feed::new(alloc);
-    assert_eq!(rt; feed.all(&mut source)?.as_slice(), input);
-    assert_eq!(rt; feed.all(&mut source)?.as_slice(), b"".as_slice());
-    Ok(())
+    expect_rest(rt, &mut feed, &mut source, input)?;
+    expect_rest(rt, &mut feed, &mut source, b"")
 }
 
 #[test]
@@ -33,6 +43,5 @@ fn a_fault_keeps_what_came(rt: HostRuntime) -> Result<(), Fail> {
     let mut source = MemSource::new(alloc, b"abcd", 2, &[2])?;
     let mut feed = Feed::new(alloc);
     assert!(rt; matches!(feed.all(&mut source), Err(FeedError::ReadFault)));
-    assert_eq!(rt; feed.all(&mut source)?.as_slice(), b"abcd".as_slice());
-    Ok(())
+    expect_rest(&rt, &mut feed, &mut source, b"abcd")
 }

@@ -6,22 +6,20 @@ use std::test::Fail;
 
 const ID: &[u8; 64] = b"0123456789abcdef0123456789abcdef0123456789abcdef0123456789abcdef";
 
+/// A sign with a key in small digits behind it.
+fn put_key(line: &mut Buffer, sign: &[u8], key: &Text) -> Result<(), Fault> {
+    put(line, sign)?;
+    put_hex(line, key.as_slice())
+}
+
 /// The words of an operation, with small digits.
 fn put_op(line: &mut Buffer, op: &Op) -> Result<(), Fault> {
     match op {
-        Op::Read(key) => {
-            put(line, b" ?")?;
-            put_hex(line, key.as_slice())
-        }
+        Op::Read(key) => put_key(line, b" ?", key),
+        Op::Delete(key) => put_key(line, b" -", key),
         Op::Set(key, value) => {
-            put(line, b" +")?;
-            put_hex(line, key.as_slice())?;
-            put(line, b"=")?;
-            put_hex(line, value.as_slice())
-        }
-        Op::Delete(key) => {
-            put(line, b" -")?;
-            put_hex(line, key.as_slice())
+            put_key(line, b" +", key)?;
+            put_key(line, b"=", value)
         }
     }
 }
@@ -35,38 +33,38 @@ fn written(alloc: Global, ops: &OpList) -> Result<Buffer, Fault> {
     Ok(line)
 }
 
-/// `prove`, an id and the words of operations.
-fn proving(alloc: Global, id: &[u8], ops: &[&[u8]]) -> Result<Vec<Text>, AllocError> {
-    let mut words = Vec::new(alloc);
-    words.push(Text::copy(alloc, b"prove")?)?;
-    words.push(Text::copy(alloc, id)?)?;
+/// The command of `prove`, an id and the words of operations.
+fn read_prove(
+    alloc: Global,
+    id: &[u8],
+    ops: &[&[u8]],
+) -> Result<Result<Command, CommandError>, AllocError> {
+    let mut words = tests::texts(alloc, &[b"prove", id])?;
     for op in ops {
         words.push(Text::copy(alloc, op)?)?;
     }
-    Ok(words)
+    Ok(read_command(alloc, words.as_slice()))
+}
+
+/// The operations of a command.
+fn ops_of(command: &Command) -> Option<&OpList> {
+    match command {
+        Command::Prove { ops, .. } => Some(ops),
+        _ => None,
+    }
 }
 
 fn expect_ops(rt: &impl Abort, alloc: Global, ops: &[&[u8]], want: &[u8]) -> Result<(), Fail> {
-    let words = proving(alloc, ID, ops)?;
-    match read_command(alloc, words.as_slice())? {
-        Command::Prove { id: _, ops: found } => {
-            let line = written(alloc, &found)?;
-            assert_eq!(rt; line.bytes(), want, "{ops:?}");
-        }
-        _ => panic!(rt; "another command: {ops:?}"),
-    }
+    let command = read_prove(alloc, ID, ops)??;
+    let found = ops_of(&command).ok_or("another command")?;
+    let line = written(alloc, found)?;
+    assert!(rt; line.bytes() == want, "{ops:?}");
     Ok(())
 }
 
 fn expect_bad(rt: &impl Abort, alloc: Global, id: &[u8], ops: &[&[u8]]) -> Result<(), Fail> {
-    let words = proving(alloc, id, ops)?;
-    assert!(rt;
-        matches!(
-            read_command(alloc, words.as_slice()),
-            Err(CommandError::Bad)
-        ),
-        "{ops:?}"
-    );
+    let found = read_prove(alloc, id, ops)?;
+    assert!(rt; matches!(found, Err(CommandError::Bad)), "{ops:?}");
     Ok(())
 }
 
@@ -129,30 +127,26 @@ fn bad_ids_of_recordings(rt: HostRuntime) -> Result<(), Fail> {
     Ok(())
 }
 
-/// A sign and a key of so many bytes.
-fn signed(alloc: Global, sign: &[u8], digits: usize) -> Result<Buffer, Fail> {
-    let digits = vec![in alloc; b'7'; digits]?;
-    let mut word = Buffer::new(alloc);
-    put(&mut word, sign)?;
-    put(&mut word, digits.as_slice())?;
+/// A sign and a key of so many digits.
+fn signed(alloc: Global, sign: u8, digits: usize) -> Result<Vec<u8>, AllocError> {
+    let mut word = vec![in alloc; b'7'; digits]?;
+    word.insert(0, sign)?;
     Ok(word)
+}
+
+fn expect_longest(rt: &impl Abort, alloc: Global, sign: u8) -> Result<(), Fail> {
+    let longest = signed(alloc, sign, 4228)?;
+    assert!(rt; read_prove(alloc, ID, &[longest.as_slice()])?.is_ok());
+    let longer = signed(alloc, sign, 4230)?;
+    expect_bad(rt, alloc, ID, &[longer.as_slice()])
 }
 
 /// The key of an operation is as long as any, and no longer.
 #[test]
 fn longest_keys_of_operations(rt: HostRuntime) -> Result<(), Fail> {
     let alloc = rt.alloc();
-    for sign in [b"?".as_slice(), b"-"] {
-        let longest = signed(alloc, sign, 4228)?;
-        let words = proving(alloc, ID, &[longest.bytes()])?;
-        assert!(&rt;
-            matches!(
-                read_command(alloc, words.as_slice()),
-                Ok(Command::Prove { .. })
-            )
-        );
-        let longer = signed(alloc, sign, 4230)?;
-        expect_bad(&rt, alloc, ID, &[longer.bytes()])?;
+    for sign in *b"?-" {
+        expect_longest(&rt, alloc, sign)?;
     }
     Ok(())
 }

@@ -12,6 +12,37 @@ fn copies(alloc: Global, byte: u8, count: usize) -> Result<Vec<u8>, AllocError> 
     vec![in alloc; byte; count]
 }
 
+/// The next line is this one, of this number.
+fn expect_next<S: Source>(
+    rt: &impl Abort,
+    lines: &mut Lines,
+    source: &mut S,
+    want: &[u8],
+    number: u64,
+) -> Result<(), Fail> {
+    assert!(rt; lines.next(source)? == Some(want), "line {number}");
+    assert!(rt; lines.number() == number, "line {number}");
+    Ok(())
+}
+
+fn expect_end<S: Source>(rt: &impl Abort, lines: &mut Lines, source: &mut S) -> Result<(), Fail> {
+    assert!(rt; lines.next(source)?.is_none());
+    Ok(())
+}
+
+fn expect_fault<S: Source>(rt: &impl Abort, lines: &mut Lines, source: &mut S) {
+    assert!(rt; matches!(lines.next(source), Err(LineError::ReadFault)));
+}
+
+/// Copies of words.
+pub(crate) fn texts(alloc: Global, words: &[&[u8]]) -> Result<Vec<Text>, AllocError> {
+    let mut texts = Vec::new(alloc);
+    for word in words {
+        texts.push(Text::copy(alloc, word)?)?;
+    }
+    Ok(texts)
+}
+
 /// Reads the lines of an input in pieces.
 fn expect_lines(
     rt: &impl Abort,
@@ -24,13 +55,11 @@ fn expect_lines(
 {
     let mut source = MemSource::new(alloc, input, piece, &[])?;
     let mut lines = Lines::new(alloc);
-    assert_eq!(rt; lines.number(), 0);
+    assert!(rt; lines.number() == 0);
     for (i, line) in want.iter().enumerate() {
-        assert_eq!(rt; lines.next(&mut source)?, Some(*line), "{input:?}");
-        assert_eq!(rt; lines.number(), i as u64 + 1, "{input:?}");
+        expect_next(rt, &mut lines, &mut source, line, i as u64 + 1)?;
     }
-    assert!(rt; lines.next(&mut source)?.is_none(), "{input:?}");
-    Ok(())
+    expect_end(rt, &mut lines, &mut source)
 }
 
 #[test]
@@ -67,7 +96,7 @@ fn longest_line(rt: HostRuntime) -> Result<(), Fail> {
     let mut lines = Lines::new(alloc);
     for _ in 0..2 {
         assert!(&rt; matches!(lines.next(&mut source), Err(LineError::Long)));
-        assert_eq!(&rt; lines.number(), 1);
+        assert!(&rt; lines.number() == 1);
     }
     Ok(())
 }
@@ -79,13 +108,22 @@ fn source_fails(rt: HostRuntime) -> Result<(), Fail> {
     let mut source = MemSource::new(alloc, b"ab\ncd", 2, &[2, 4])?;
     let mut lines = Lines::new(alloc);
     for (number, line) in [(1, b"ab"), (2, b"cd")] {
-        assert!(rt; matches!(lines.next(&mut source), Err(LineError::ReadFault)));
-        assert_eq!(rt; lines.number(), number);
-        assert_eq!(rt; lines.next(&mut source)?, Some(line.as_slice()));
-        assert_eq!(rt; lines.number(), number);
+        expect_fault(&rt, &mut lines, &mut source);
+        assert!(rt; lines.number() == number);
+        expect_next(&rt, &mut lines, &mut source, line, number)?;
     }
-    assert!(rt; lines.next(&mut source)?.is_none());
-    Ok(())
+    expect_end(&rt, &mut lines, &mut source)
+}
+
+/// The word of a command.
+fn word_of(command: &Command) -> &'static [u8] {
+    match command {
+        Command::Root => b"root",
+        Command::Apply => b"apply",
+        Command::Get { .. } => b"get",
+        Command::Prove { .. } => b"prove",
+        Command::Replay => b"replay",
+    }
 }
 
 /// The words are the command of this word, or none where it is empty.
@@ -95,20 +133,11 @@ fn expect_command(
     words: &[&[u8]],
     want: &[u8],
 ) -> Result<(), Fail> {
-    let mut texts = Vec::new(alloc);
-    for word in words {
-        texts.push(Text::copy(alloc, word)?)?;
-    }
+    let texts = texts(alloc, words)?;
     match read_command(alloc, texts.as_slice()) {
-        Ok(Command::Root) => assert_eq!(rt; want, b"root".as_slice(), "{words:?}"),
-        Ok(Command::Apply) => assert_eq!(rt; want, b"apply".as_slice(), "{words:?}"),
-        Ok(Command::Get { .. }) => assert_eq!(rt; want, b"get".as_slice(), "{words:?}"),
-        Ok(Command::Prove { .. }) => assert_eq!(rt; want, b"prove".as_slice(), "{words:?}"),
-        Ok(Command::Replay) => assert_eq!(rt; want, b"replay".as_slice(), "{words:?}"),
-        Err(error) => {
-            assert!(rt; matches!(error, CommandError::Bad), "{words:?}");
-            assert!(rt; want.is_empty(), "{words:?}");
-        }
+        Ok(found) => assert!(rt; word_of(&found) == want, "{words:?}"),
+        Err(CommandError::Bad) => assert!(rt; want.is_empty(), "{words:?}"),
+        Err(CommandError::NoMemory) => return Err(Fail::from(AllocError)),
     }
     Ok(())
 }
@@ -147,6 +176,14 @@ fn commands(rt: HostRuntime) -> Result<(), Fail> {
     Ok(())
 }
 
+/// Of seven bytes a sink takes these, which are all where it is done, and then none.
+fn expect_taken(rt: &impl Abort, sink: &mut MemSink, done: bool, want: &[u8]) {
+    let found = put(sink, b"abcdefg").is_ok();
+    assert!(rt; found == done, "{want:?}");
+    assert!(rt; sink.bytes() == want, "{want:?}");
+    assert!(rt; put(sink, b"").is_ok(), "no write");
+}
+
 /// A sink of so many bytes takes them in pieces, and the third write fails where `fails` is 3.
 #[test]
 fn writes_in_pieces(rt: HostRuntime) -> Result<(), Fail> {
@@ -161,36 +198,36 @@ fn writes_in_pieces(rt: HostRuntime) -> Result<(), Fail> {
     ];
     for (most, piece, fails, done, want) in table {
         let mut sink = MemSink::new(alloc, most, piece, &[fails])?;
-        assert_eq!(rt; put(&mut sink, b"abcdefg").is_ok(), done, "{want:?}");
-        assert_eq!(rt; sink.bytes(), want);
-        assert!(rt; put(&mut sink, b"").is_ok(), "no write");
+        expect_taken(&rt, &mut sink, done, want);
     }
     Ok(())
 }
 
-/// Numbers, and bytes of which the last are more than are spelled at a time.
 #[test]
 fn printed_forms(rt: HostRuntime) -> Result<(), Fail> {
-    let alloc = rt.alloc();
-    let mut buffer = Buffer::new(alloc);
+    let mut buffer = Buffer::new(rt.alloc());
     for n in [0, 9, 10, 100, u64::MAX] {
         put_number(&mut buffer, n)?;
         put(&mut buffer, b" ")?;
     }
-    put_hex(&mut buffer, b"")?;
-    put_hex(&mut buffer, b"\x00\xff\x1a")?;
-    assert_eq!(rt;
-        buffer.bytes(),
-        b"0 9 10 100 18446744073709551615 -00ff1a".as_slice()
-    );
+    for bytes in [b"".as_slice(), b"\x00\xff\x1a"] {
+        put_hex(&mut buffer, bytes)?;
+    }
+    let want = b"0 9 10 100 18446744073709551615 -00ff1a".as_slice();
+    assert!(rt; buffer.bytes() == want);
+    Ok(())
+}
 
+/// More bytes than are spelled at a time.
+#[test]
+fn many_digits(rt: HostRuntime) -> Result<(), Fail> {
+    let alloc = rt.alloc();
     let mut bytes = copies(alloc, 0xa5, 1024)?;
     bytes.push(0x0f)?;
     let mut sink = MemSink::new(alloc, 2050, 100, &[])?;
     put_hex(&mut sink, bytes.as_slice())?;
-    assert_eq!(rt; sink.bytes().len(), 2050);
-    assert!(rt; sink.bytes().starts_with(b"a5a5"));
-    assert!(rt; sink.bytes().ends_with(b"a5a50f"));
+    let found = sink.bytes();
+    assert!(rt; found.len() == 2050 && found.starts_with(b"a5a5") && found.ends_with(b"a5a50f"));
     Ok(())
 }
 
@@ -215,21 +252,23 @@ impl Write for Broken {
 }
 
 #[test]
-fn streams_of_std(rt: HostRuntime) -> Result<(), Fail> {
-    let alloc = rt.alloc();
+fn lines_of_std(rt: HostRuntime) -> Result<(), Fail> {
+    let mut lines = Lines::new(rt.alloc());
     let mut source = StdSource::new(b"one\ntwo".as_slice());
-    let mut lines = Lines::new(alloc);
-    assert_eq!(rt; lines.next(&mut source)?, Some(b"one".as_slice()));
-    assert_eq!(rt; lines.next(&mut source)?, Some(b"two".as_slice()));
-    assert!(rt; lines.next(&mut source)?.is_none());
-    let mut source = StdSource::new(Broken);
-    assert!(rt; matches!(lines.next(&mut source), Err(LineError::ReadFault)));
+    expect_next(&rt, &mut lines, &mut source, b"one", 1)?;
+    expect_next(&rt, &mut lines, &mut source, b"two", 2)?;
+    expect_end(&rt, &mut lines, &mut source)?;
+    expect_fault(&rt, &mut lines, &mut StdSource::new(Broken));
+    Ok(())
+}
 
+#[test]
+fn sinks_of_std(rt: HostRuntime) -> Result<(), Fail> {
     let mut bytes = [0; 3];
     let mut sink = StdSink::new(bytes.as_mut_slice());
     put(&mut sink, b"ab")?;
     assert!(rt; put(&mut sink, b"cd").is_err(), "no room");
-    assert_eq!(rt; bytes, *b"abc");
+    assert!(rt; bytes == *b"abc");
     let mut sink = StdSink::new(Broken);
     assert!(rt; put(&mut sink, b"ab").is_err(), "not flushed");
     Ok(())
