@@ -16,40 +16,58 @@ fn short(at: u64) -> Option<PartialError> {
     Some(PartialError::Frame(BorshError::Short { at }))
 }
 
+/// A set is written as these bytes.
+fn expect_written(rt: &impl Abort, alloc: Global, set: &TextSet, want: &[u8]) -> Result<(), Fail> {
+    assert_eq!(rt; write_partial(alloc, set)?.as_slice(), want);
+    Ok(())
+}
+
 #[test]
 fn a_set_is_written(rt: HostRuntime) -> Result<(), Fail> {
     let alloc = rt.alloc();
     let mut set = TextSet::new(alloc);
-    assert_eq!(rt; write_partial(alloc, &set)?.as_slice(), [0; 5].as_slice());
-    set.put(b"ab")?;
-    set.put(b"a")?;
-    set.put(b"ab")?;
-    assert_eq!(rt; write_partial(alloc, &set)?.as_slice(), TWO.as_slice());
-    Ok(())
+    expect_written(&rt, alloc, &set, &[0; 5])?;
+    for text in [b"ab".as_slice(), b"a", b"ab"] {
+        set.put(text)?;
+    }
+    expect_written(&rt, alloc, &set, &TWO)
+}
+
+/// The texts `a` and `ab`, as they are read.
+fn two(alloc: Global) -> Result<PartialTexts, Fail> {
+    Ok(PartialTexts::read(alloc, &TWO).ok().ok_or("refused")?)
 }
 
 #[test]
 fn loads_are_marked(rt: HostRuntime) -> Result<(), Fail> {
-    let alloc = rt.alloc();
-    let mut texts = PartialTexts::read(alloc, &TWO).ok().ok_or("refused")?;
-    assert_eq!(rt; texts.len(), 2);
-    assert_eq!(rt; texts.unused(), Some(0));
-    assert!(rt; matches!(texts.load(&digest(b"b")), Ok(None)));
-    assert!(rt; matches!(texts.load(&digest(b"a")), Ok(Some(b"a"))));
-    assert_eq!(rt; texts.unused(), Some(1));
-    assert!(rt; matches!(texts.load(&digest(b"ab")), Ok(Some(b"ab"))));
-    assert_eq!(rt; texts.unused(), None);
-    assert_eq!(rt; texts.loads(), 3);
+    let mut texts = two(rt.alloc())?;
+    assert!(rt; texts.len() == 2);
+    let rows: [(&[u8], Option<&[u8]>, Option<u64>); 3] = [
+        (b"b", None, Some(0)),
+        (b"a", Some(b"a"), Some(1)),
+        (b"ab", Some(b"ab"), None),
+    ];
+    assert!(rt; texts.unused() == Some(0));
+    for (text, loaded, unused) in rows {
+        assert!(rt; texts.load(&digest(text)) == Ok(loaded));
+        assert!(rt; texts.unused() == unused);
+    }
+    assert!(rt; texts.loads() == 3);
     Ok(())
+}
+
+/// The text at a place.
+fn expect_at(rt: &impl Abort, texts: &PartialTexts, place: u64, want: &[u8]) {
+    assert!(rt; place < texts.len());
+    assert_eq!(rt; texts.at(place), want);
 }
 
 #[test]
 fn places_are_those_of_the_bytes(rt: HostRuntime) -> Result<(), Fail> {
-    let alloc = rt.alloc();
-    let texts = PartialTexts::read(alloc, &TWO).ok().ok_or("refused")?;
-    assert_eq!(rt; texts.len(), 2);
-    assert_eq!(rt; texts.at(0), b"a".as_slice());
-    assert_eq!(rt; texts.at(1), b"ab".as_slice());
+    let texts = two(rt.alloc())?;
+    assert!(rt; texts.len() == 2);
+    expect_at(&rt, &texts, 0, b"a");
+    expect_at(&rt, &texts, 1, b"ab");
     Ok(())
 }
 
@@ -152,8 +170,8 @@ fn a_set_is_taken_over(rt: HostRuntime) -> Result<(), Fail> {
     set.put(b"ab")?;
     set.put(b"a")?;
     let texts = taken_over(alloc, set)?.ok_or("refused")?;
-    assert_eq!(rt; texts.len(), 2);
-    assert_eq!(rt; texts.at(0), b"a".as_slice());
-    assert_eq!(rt; texts.unused(), Some(0));
+    assert!(rt; texts.len() == 2);
+    expect_at(&rt, &texts, 0, b"a");
+    assert!(rt; texts.unused() == Some(0));
     Ok(())
 }

@@ -4,6 +4,7 @@ ghost use Rattle.base_core.specs.Faults.{risen};
 use super::*;
 use base_core::{Digest, Fault, Text, digest};
 use std::alloc::{AllocError, Global};
+use std::process::Abort;
 use std::test::Fail;
 
 /// How many of these digests have a text, by a load for each.
@@ -51,22 +52,51 @@ fn let_go<N: Nodes>(store: &mut N, d: &Digest, times: u64) -> Result<bool, Fault
     Ok(true)
 }
 
+/// How many texts a store has, and the count of one.
+fn expect_counts<N: Nodes>(rt: &impl Abort, store: &N, d: &Digest, distinct: u64, count: u64) {
+    assert!(rt; store.distinct() == distinct);
+    assert!(rt; store.count(d) == count);
+}
+
+fn expect_text<T: Texts>(
+    rt: &impl Abort,
+    store: &mut T,
+    d: &Digest,
+    want: Option<&[u8]>,
+) -> Result<(), Fail> {
+    assert!(rt; store.load(d)? == want);
+    Ok(())
+}
+
+/// Keeps a text, with this answer of `keep`.
+fn expect_kept(
+    rt: &impl Abort,
+    store: &mut MemNodes,
+    alloc: Global,
+    text: &[u8],
+    times: u64,
+    answer: u8,
+) -> Result<(), Fail>
+    requires { 1 ≤ times }
+{
+    assert!(rt; keep(store, alloc, text, times)? == answer);
+    Ok(())
+}
+
 #[test]
 fn texts_are_counted(rt: HostRuntime) -> Result<(), Fail> {
     let alloc = rt.alloc();
     let mut store = MemNodes::new(alloc, &[])?;
     let (a, b, c) = (digest(b"a"), digest(b"b"), digest(b"c"));
-    assert_eq!(rt; store.distinct(), 0);
-    assert_eq!(rt; keep(&mut store, alloc, b"a", 2)?, 0);
-    assert_eq!(rt; keep(&mut store, alloc, b"b", 1)?, 0);
-    assert_eq!(rt; keep(&mut store, alloc, b"b", 3)?, 0);
-    assert_eq!(rt; store.distinct(), 2);
-    assert_eq!(rt; store.count(&b), 4);
-    assert_eq!(rt; store.count(&c), 0);
-    assert!(rt; matches!(count_held(&mut store, &[a, b, c, Digest::ZERO]), Ok(2)));
-    assert_eq!(rt; store.loads(), 4);
-    assert!(rt; matches!(store.load(&b), Ok(Some(b"b"))));
-    Ok(())
+    expect_counts(&rt, &store, &b, 0, 0);
+    expect_kept(&rt, &mut store, alloc, b"a", 2, 0)?;
+    expect_kept(&rt, &mut store, alloc, b"b", 1, 0)?;
+    expect_kept(&rt, &mut store, alloc, b"b", 3, 0)?;
+    expect_counts(&rt, &store, &b, 2, 4);
+    expect_counts(&rt, &store, &c, 2, 0);
+    assert!(rt; count_held(&mut store, &[a, b, c, Digest::ZERO])? == 2);
+    assert!(rt; store.loads() == 4);
+    expect_text(&rt, &mut store, &b, Some(b"b"))
 }
 
 #[test]
@@ -74,15 +104,12 @@ fn text_goes_with_its_last_use(rt: HostRuntime) -> Result<(), Fail> {
     let alloc = rt.alloc();
     let mut store = MemNodes::new(alloc, &[])?;
     let d = digest(b"a");
-    assert_eq!(rt; keep(&mut store, alloc, b"a", 3)?, 0);
-    assert!(rt; matches!(let_go(&mut store, &d, 2), Ok(true)));
-    assert_eq!(rt; store.count(&d), 1);
-    assert!(rt; matches!(let_go(&mut store, &d, 1), Ok(true)));
-    assert_eq!(rt; store.count(&d), 0);
-    assert_eq!(rt; store.distinct(), 0);
-    assert!(rt; matches!(store.load(&d), Ok(None)));
-    assert!(rt; matches!(let_go(&mut store, &d, 0), Ok(true)));
-    Ok(())
+    expect_kept(&rt, &mut store, alloc, b"a", 3, 0)?;
+    for (times, distinct, count) in [(2, 1, 1), (1, 0, 0), (0, 0, 0)] {
+        assert!(rt; let_go(&mut store, &d, times)?);
+        expect_counts(&rt, &store, &d, distinct, count);
+    }
+    expect_text(&rt, &mut store, &d, None)
 }
 
 /// A text is kept, loaded and released. Which of these fail where this call fails.
@@ -97,11 +124,15 @@ fn failures(alloc: Global, fails: u64) -> Result<(u8, bool, bool), AllocError> {
 #[test]
 fn each_call_fails_in_turn(rt: HostRuntime) -> Result<(), Fail> {
     let alloc = rt.alloc();
-    assert_eq!(rt; failures(alloc, 1)?, (2, false, false));
-    assert_eq!(rt; failures(alloc, 2)?, (2, false, false));
-    assert_eq!(rt; failures(alloc, 3)?, (0, true, false));
-    assert_eq!(rt; failures(alloc, 4)?, (0, false, true));
-    assert_eq!(rt; failures(alloc, 5)?, (0, false, false));
+    for (fails, want) in [
+        (1, (2, false, false)),
+        (2, (2, false, false)),
+        (3, (0, true, false)),
+        (4, (0, false, true)),
+        (5, (0, false, false)),
+    ] {
+        assert!(rt; failures(alloc, fails)? == want, "call {fails}");
+    }
     Ok(())
 }
 
@@ -110,13 +141,12 @@ fn faults_change_nothing(rt: HostRuntime) -> Result<(), Fail> {
     let alloc = rt.alloc();
     let mut store = MemNodes::new(alloc, &[5, 3, 4])?;
     let d = digest(b"a");
-    assert_eq!(rt; keep(&mut store, alloc, b"a", 2)?, 0);
+    expect_kept(&rt, &mut store, alloc, b"a", 2, 0)?;
     assert!(rt; store.load(&d).is_err());
-    assert_eq!(rt; keep(&mut store, alloc, b"b", 2)?, 2);
+    expect_kept(&rt, &mut store, alloc, b"b", 2, 2)?;
     assert!(rt; let_go(&mut store, &d, 2).is_err());
-    assert_eq!(rt; store.distinct(), 1);
-    assert_eq!(rt; store.count(&d), 2);
-    assert!(rt; matches!(store.load(&d), Ok(Some(b"a"))));
-    assert_eq!(rt; store.loads(), 2);
+    expect_counts(&rt, &store, &d, 1, 2);
+    expect_text(&rt, &mut store, &d, Some(b"a"))?;
+    assert!(rt; store.loads() == 2);
     Ok(())
 }
